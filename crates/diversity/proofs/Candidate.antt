@@ -1,0 +1,51 @@
+-- Candidates: what a set of taxa is worth, which of two is better, the sum of two, and one charged with a branch.
+use Prim.Native.Nat.{ℕ, _+_}
+use mathlib.Core.Bool.{Bool, _||_, _&&_}
+use lib.Dec.{eqb, ltb, leb}
+use Rattle.outline.specs.Lists.{pick}
+
+-- what a set is worth; its code is the set read as a binary number, the first taxon the most significant
+pub record Value : Type 0 where
+  pub diversity : ℕ
+  pub cost : ℕ
+  pub code : ℕ
+
+-- the worth of two sets with no taxon in common, taken together
+abbrev pub plus : Value → Value → Value
+plus v w = record { diversity = v .diversity + w .diversity; cost = v .cost + w .cost; code = v .code + w .code }
+
+-- the empty set
+abbrev pub nothingWorth : Value
+nothingWorth = record { diversity = 0; cost = 0; code = 0 }
+
+abbrev pub charge : Value → ℕ → Value
+charge v n = record { diversity = v .diversity + n; cost = v .cost; code = v .code }
+
+-- more diversity, then less cost, then the first taxon on which they differ
+unfoldable pub beats : Value → Value → Bool
+beats v w =
+    ltb (w .diversity) (v .diversity)
+    || (eqb (v .diversity) (w .diversity)
+    && (ltb (v .cost) (w .cost) || (eqb (v .cost) (w .cost) && ltb (w .code) (v .code))))
+
+pub data Cand : Type 0 where
+  none : Cand
+  some : Value → Cand
+
+unfoldable pub betterOf : Cand → Cand → Cand
+betterOf none c = c
+betterOf (some v) none = some v
+betterOf (some v) (some w) = pick (beats w v) (some w) (some v)
+
+unfoldable pub joinOf : Cand → Cand → Cand
+joinOf none c = none
+joinOf (some v) none = none
+joinOf (some v) (some w) = some (plus v w)
+
+unfoldable pub chargeOf : Cand → ℕ → Cand
+chargeOf none n = none
+chargeOf (some v) n = some (charge v n)
+
+-- the one value, where it fits b
+unfoldable pub oneAt : Value → ℕ → Cand
+oneAt v b = pick (leb (v .cost) b) (some v) none

@@ -1,0 +1,13 @@
+-- Laws of the definitions, for the crates above.
+pub mod Best
+pub mod ByTree
+pub mod Candidate
+pub mod Forest
+pub mod Links
+pub mod Marks
+pub mod Measures
+pub mod Numbers
+pub mod Optimum
+pub mod Order
+pub mod Starred
+pub mod Sums

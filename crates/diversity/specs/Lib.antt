@@ -1,0 +1,4 @@
+-- What the best choice is: the definitions that a reader has to believe, and the starred cases.
+pub mod Diversity
+pub mod Search
+pub mod Starred

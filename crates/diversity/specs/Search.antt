@@ -1,0 +1,75 @@
+-- The exhaustive search, document 01's patient editor: it goes through every subset of the taxa and keeps the best that
+-- fits a page count.
+use Prim.Native.Nat.{ℕ, zero, suc}
+use mathlib.Core.Bool.{Bool, false, _||_, _&&_}
+use mathlib.Core.List.{List, [], _∷_, _++_, map, foldl}
+use lib.Dec.{eqb, ltb, leb}
+use Rattle.outline.specs.Lists.{pick}
+use Rattle.outline.specs.Outline.{records, isTaxon}
+use Rattle.diversity.specs.Diversity.{diversity, cost}
+
+-- every set of taxa among the given records: 0 at a group, 0 or 1 at a taxon
+unfoldable pub subsets : List ℕ → List ℕ → List (List ℕ)
+subsets o [] = [] ∷ []
+subsets o (r ∷ rs) =
+    let rest = subsets o rs in
+    let marked = map (λ (s : List ℕ). 1 ∷ s) rest in
+    map (λ (s : List ℕ). 0 ∷ s) rest ++ pick (isTaxon o r) marked []
+
+-- at the lowest-numbered record on which they differ, the first set has the mark
+unfoldable pub leads : List ℕ → List ℕ → Bool
+leads [] t = false
+leads (a ∷ s) [] = false
+leads (a ∷ s) (b ∷ t) = pick (eqb a b) (leads s t) (ltb b a)
+
+-- s is better than t: more diversity first, then fewer quarters, then the lowest-numbered taxon on which they differ
+unfoldable pub better : List ℕ → ℕ → List ℕ → List ℕ → Bool
+better o way s t =
+    let ds = diversity o way s in
+    let dt = diversity o way t in
+    let cs = cost o s in
+    let ct = cost o t in
+    ltb dt ds || (eqb ds dt && (ltb cs ct || (eqb cs ct && leads s t)))
+
+-- what the search has in hand
+pub data Hand : Type 0 where
+  nothing : Hand
+  holding : List ℕ → Hand
+
+-- a set is taken in hand if nothing is there, or if it is better than the one there
+unfoldable pub taken : List ℕ → ℕ → Hand → List ℕ → Hand
+taken o way nothing s = holding s
+taken o way (holding t) s = pick (better o way s t) (holding s) (holding t)
+
+-- a set that doesn't fit page count b is passed over
+unfoldable pub turn : List ℕ → ℕ → ℕ → Hand → List ℕ → Hand
+turn o way b hand s = pick (leb (cost o s) b) (taken o way hand s) hand
+
+-- the search starts with nothing in hand and goes through every subset of the taxa
+unfoldable pub exhaustiveSearch : List ℕ → ℕ → ℕ → Hand
+exhaustiveSearch o way b = foldl (turn o way b) nothing (subsets o (records o))
+
+-- the set in hand; the search never ends with nothing there (proofs/Optimum)
+unfoldable pub setOf : Hand → List ℕ
+setOf nothing = []
+setOf (holding s) = s
+
+-- the set in hand after the last subset
+unfoldable pub optimum : List ℕ → ℕ → ℕ → List ℕ
+optimum o way b = setOf (exhaustiveSearch o way b)
+
+-- column b of the curve: the diversity of the set in hand, then its cost
+unfoldable pub bestDiversity : List ℕ → ℕ → ℕ → ℕ
+bestDiversity o way b = diversity o way (optimum o way b)
+
+unfoldable pub leastCost : List ℕ → ℕ → ℕ → ℕ
+leastCost o way b = cost o (optimum o way b)
+
+-- how many columns left of column b have diversity d, read leftwards until it drops, and at most to column 0
+unfoldable pub level : (ℕ → ℕ) → ℕ → ℕ → ℕ
+level curve d zero = 0
+level curve d (suc b) = pick (eqb (curve b) d) (suc (level curve d b)) 0
+
+-- the quarters that can go with the diversity unchanged
+unfoldable pub spare : List ℕ → ℕ → ℕ → ℕ
+spare o way b = level (bestDiversity o way) (bestDiversity o way b) b

@@ -1,0 +1,115 @@
+-- The starred cases of document 01, A1 to E, in one list: what choosing has to give for each.
+use Prim.Native.Nat.{ℕ, zero, suc, _/_, _%_}
+use mathlib.Core.List.{List, [], _∷_, _++_, map}
+use Rattle.outline.specs.Verdict.{Told, passed, checked}
+use Rattle.diversity.specs.Diversity.{diversity, cost, members}
+use Rattle.diversity.specs.Search.{optimum, bestDiversity, leastCost, spare}
+
+-- what choosing gives: what the check tells of the outline, the marks, and the four numbers
+pub record Choice : Type 0 where
+  pub check : Told
+  pub marks : List ℕ
+  pub diversity : ℕ
+  pub cost : ℕ
+  pub taxa : ℕ
+  pub spare : ℕ
+
+-- another set that a case speaks of, and what it is worth
+pub record Rival : Type 0 where
+  pub marks : List ℕ
+  pub diversity : ℕ
+  pub cost : ℕ
+
+pub record Case : Type 0 where
+  pub outline : List ℕ
+  pub way : ℕ
+  pub count : ℕ
+  pub gives : Choice
+  pub rivals : List Rival
+
+-- a case with what the definitions give in place of what it says
+abbrev pub computed : Case → Case
+computed c =
+    let o = c .outline in
+    let best = optimum o (c .way) (c .count) in
+    record {
+      outline = o;
+      way = c .way;
+      count = c .count;
+      gives = record {
+        check = checked o;
+        marks = best;
+        diversity = bestDiversity o (c .way) (c .count);
+        cost = leastCost o (c .way) (c .count);
+        taxa = members o best;
+        spare = spare o (c .way) (c .count);
+      };
+      rivals = map (λ (v : Rival). record { marks = v .marks; diversity = diversity o (c .way) (v .marks); cost = cost o (v .marks) }) (c .rivals);
+    }
+
+-- ---- the outlines
+-- the k bytes of a number, least significant first
+unfoldable pub bytes : ℕ → ℕ → List ℕ
+bytes zero n = []
+bytes (suc k) n = (n % 256) ∷ bytes k (n / 256)
+
+-- a record: next, first, length, price, plate
+unfoldable pub entry : ℕ → ℕ → ℕ → ℕ → ℕ → List ℕ
+entry next first length price plate = bytes 2 next ++ bytes 2 first ++ bytes 4 length ++ bytes 4 price ++ bytes 4 plate
+
+unfoldable pub treeA : List ℕ
+treeA = entry 0 2 0 0 0 ++ entry 5 3 3 0 0 ++ entry 4 0 4 3 11 ++ entry 0 0 2 1 12 ++ entry 0 0 5 2 13
+
+-- B: root (length 0), group of length 7, one taxon of length 0 and price 2
+unfoldable pub treeB : List ℕ
+treeB = entry 0 2 0 0 0 ++ entry 0 3 7 0 0 ++ entry 0 0 0 2 1
+
+-- C: two taxa under a root of length 0, of one length and one price
+unfoldable pub treeC : ℕ → ℕ → List ℕ
+treeC length price = entry 0 2 0 0 0 ++ entry 3 0 length price 1 ++ entry 0 0 length price 2
+
+-- D: three taxa under a root of length 0, lengths 6, 5, 5, prices 3, 2, 2
+unfoldable pub treeD : List ℕ
+treeD = entry 0 2 0 0 0 ++ entry 3 0 6 3 1 ++ entry 4 0 5 2 2 ++ entry 0 0 5 2 3
+
+-- E: one taxon, length 5, price 1
+unfoldable pub treeE : List ℕ
+treeE = entry 0 0 5 1 1
+
+-- ---- the cases
+-- a selection of an accepted outline: marks, diversity, cost, number of taxa, spare
+abbrev selects : List ℕ → ℕ → ℕ → ℕ → ℕ → Choice
+selects marks diversity cost taxa spare = record { check = passed; marks = marks; diversity = diversity; cost = cost; taxa = taxa; spare = spare }
+
+abbrev rival : List ℕ → ℕ → ℕ → Rival
+rival marks diversity cost = record { marks = marks; diversity = diversity; cost = cost }
+
+-- an outline, a way and a page count; the selection; other sets
+abbrev given : List ℕ → ℕ → ℕ → Choice → List Rival → Case
+given outline way count gives rivals = record { outline = outline; way = way; count = count; gives = gives; rivals = rivals }
+
+unfoldable pub starred : List Case
+starred =
+    -- A1: plate 12 alone, not 13 at equal diversity; spare 1
+    given treeA 0 2 (selects (0 ∷ 0 ∷ 0 ∷ 1 ∷ 0 ∷ []) 5 1 1 1) (rival (0 ∷ 0 ∷ 0 ∷ 0 ∷ 1 ∷ []) 5 2 ∷ [])
+    -- A2: the empty set, diversity 0, cost 0
+    ∷ given treeA 1 2 (selects (0 ∷ 0 ∷ 0 ∷ 0 ∷ 0 ∷ []) 0 0 0 2) []
+    -- A3: plates 12 and 13, diversity 10
+    ∷ given treeA 1 3 (selects (0 ∷ 0 ∷ 0 ∷ 1 ∷ 1 ∷ []) 10 3 2 0) []
+    -- A4, either way: all three, diversity 14
+    ∷ given treeA 0 6 (selects (0 ∷ 0 ∷ 1 ∷ 1 ∷ 1 ∷ []) 14 6 3 0) []
+    ∷ given treeA 1 6 (selects (0 ∷ 0 ∷ 1 ∷ 1 ∷ 1 ∷ []) 14 6 3 0) []
+    -- B1: 7; B2: the empty set
+    ∷ given treeB 0 2 (selects (0 ∷ 0 ∷ 1 ∷ []) 7 2 1 0) []
+    ∷ given treeB 0 1 (selects (0 ∷ 0 ∷ 0 ∷ []) 0 0 0 1) []
+    -- C1: the lower record, at equal diversity and cost
+    ∷ given (treeC 4 1) 0 1 (selects (0 ∷ 1 ∷ 0 ∷ []) 4 1 1 0) (rival (0 ∷ 0 ∷ 1 ∷ []) 4 1 ∷ [])
+    -- C2: both, diversity 0
+    ∷ given (treeC 0 0) 0 0 (selects (0 ∷ 1 ∷ 1 ∷ []) 0 0 2 0) []
+    -- D: the second and third, diversity 10; longest first stops at 6, since the first taxon with another costs 5
+    ∷ given treeD 0 4 (selects (0 ∷ 0 ∷ 1 ∷ 1 ∷ []) 10 4 2 0)
+    (rival (0 ∷ 1 ∷ 0 ∷ 0 ∷ []) 6 3 ∷ rival (0 ∷ 1 ∷ 1 ∷ 0 ∷ []) 11 5 ∷ rival (0 ∷ 1 ∷ 0 ∷ 1 ∷ []) 11 5 ∷ [])
+    -- E: way 0 gives 5 and marks it; way 1 gives 0 and marks none
+    ∷ given treeE 0 1 (selects (1 ∷ []) 5 1 1 0) []
+    ∷ given treeE 1 1 (selects (0 ∷ []) 0 0 0 1) []
+    ∷ []

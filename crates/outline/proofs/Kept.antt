@@ -1,0 +1,150 @@
+-- What an accepted outline keeps: its size, its fields, its links, at most 64 taxa, and no plate twice.
+use Prim.Native.Nat.{ℕ, _+_, _*_, _%_, _≤_, _<_}
+use mathlib.Core.Path.{_≡_, refl, sym, _∙_}
+use mathlib.Core.Bool.{Bool, true, false, _||_, not, false≢true}
+use mathlib.Core.List.{List}
+use native.Mathlib.Omega.{arith}
+use lib.ListN.{length}
+use lib.Dec.{eqb, ltb}
+use borrow.Author.Tests.{eqb-true, eqb-false, ltb-true, ltb-false, leb-false, ne-eqb, not-false}
+use Rattle.outline.specs.Outline.{size, records, next, first, branch, price, plate, isTaxon}
+use Rattle.outline.specs.Rules.{longestBranch, highestPrice, badField, stray, named, badLink, taxa, hasPlate, isDuplicate}
+use Rattle.outline.specs.Verdict.{mostRecords, mostTaxa, sizeRows, recordRows, checked, isAccepted}
+use Rattle.outline.proofs.Rows.{both-pass, row-fails, row-at-fails}
+use Rattle.outline.proofs.Tests.{or-false, and-false}
+use Rattle.outline.proofs.Walk.{lowest-none, anywhere-none}
+
+-- q is 0, or the number of a record after r
+pub record Later (o : List ℕ) (r q : ℕ) : Type 0 where
+  pub later : 0 < q → r < q
+  pub most : q ≤ size o
+
+-- the links: each leads to a later record, the root has no next, and each other record is named by exactly one link
+pub record Linked (o : List ℕ) : Type 0 where
+  pub filled : 1 ≤ size o
+  pub next-later : (r : ℕ) → 1 ≤ r → r ≤ size o → Later o r (next o r)
+  pub first-later : (r : ℕ) → 1 ≤ r → r ≤ size o → Later o r (first o r)
+  pub root-alone : next o 1 ≡ 0
+  pub named-once : (q : ℕ) → 2 ≤ q → q ≤ size o → named o q ≡ 1
+
+-- the fields of record r are in their ranges
+pub record Ranged (o : List ℕ) (r : ℕ) : Type 0 where
+  pub branch-most : branch o r ≤ longestBranch
+  pub price-most : price o r ≤ highestPrice
+  pub taxon-plate : isTaxon o r ≡ true → 1 ≤ plate o r
+  pub group-price : isTaxon o r ≡ false → price o r ≡ 0
+  pub group-plate : isTaxon o r ≡ false → plate o r ≡ 0
+
+pub record Kept (o : List ℕ) : Type 0 where
+  pub whole : length o ≡ 16 * size o
+  pub size-most : size o ≤ mostRecords
+  pub ranged : (r : ℕ) → 1 ≤ r → r ≤ size o → Ranged o r
+  pub linked : Linked o
+  pub taxa-most : taxa o ≤ mostTaxa
+  pub plates-differ : (q r : ℕ) → 1 ≤ q → q ≤ size o → 1 ≤ r → r ≤ size o
+      → isTaxon o q ≡ true → isTaxon o r ≡ true → plate o q ≡ plate o r → q ≡ r
+
+-- ---- each rule, from its test
+module _ (o : List ℕ) (r : ℕ) where
+  ranged-by : (b : Bool) → isTaxon o r ≡ b → badField o r ≡ false → Ranged o r
+  unfolding badField
+  ranged-by true t e =
+      let e′ = or-false _ _ (simp t at e) in
+      let f = or-false _ _ (e′ .1) in
+      let p = eqb-false (plate o r) 0 (f .1) in
+      record {
+        branch-most = ltb-false _ _ (e′ .0);
+        price-most = ltb-false _ _ (f .0);
+        taxon-plate = λ _. omega arith;
+        group-price = λ g. absurd (false≢true (sym g ∙ t));
+        group-plate = λ g. absurd (false≢true (sym g ∙ t));
+      }
+  ranged-by false t e =
+      let e′ = or-false _ _ (simp t at e) in
+      let f = or-false _ _ (e′ .1) in
+      let p : price o r ≡ 0 = eqb-true _ _ (not-false _ (f .0)) in
+      record {
+        branch-most = ltb-false _ _ (e′ .0);
+        price-most = omega arith;
+        taxon-plate = λ g. absurd (false≢true (sym t ∙ g));
+        group-price = λ _. p;
+        group-plate = λ _. eqb-true _ _ (not-false _ (f .1));
+      }
+
+  later-by : (link : ℕ) (b : Bool) → eqb link 0 ≡ b → stray o r link ≡ false → Later o r link
+  later-by link true t e = let z = eqb-true link 0 t in record { later = λ h. absurd (omega arith); most = omega arith }
+  later-by link false t e =
+      let f = or-false _ _ (simp t at e) in
+      record { later = λ _. leb-false _ _ (f .0); most = ltb-false _ _ (f .1) }
+
+  own-links : badLink o r ≡ false → Later o r (next o r) × Later o r (first o r)
+  unfolding badLink
+  own-links e =
+      let f = or-false _ _ (or-false _ _ e .0) in
+      (later-by (next o r) _ refl (f .0), later-by (first o r) _ refl (f .1))
+
+  named-by : 2 ≤ r → badLink o r ≡ false → named o r ≡ 1
+  unfolding badLink
+  named-by h e =
+      let other : eqb r 1 ≡ false = ne-eqb r 1 (omega arith) in
+      eqb-true _ _ (not-false _ (simp other at (or-false (stray o r (next o r) || stray o r (first o r)) _ e .1)))
+
+  undoubled : isDuplicate o r ≡ false → (q : ℕ) → 1 ≤ q → q < r → isTaxon o q ≡ true → plate o q ≡ plate o r → ⊥
+  unfolding isDuplicate hasPlate
+  undoubled e q l u t = eqb-false _ _ (and-false _ _ (anywhere-none _ _ e q l (omega arith)) t)
+
+root-by : (o : List ℕ) → badLink o 1 ≡ false → next o 1 ≡ 0
+unfolding badLink
+root-by o e = eqb-true _ _ (not-false _ (or-false (stray o 1 (next o 1) || stray o 1 (first o 1)) _ e .1))
+
+differ : (o : List ℕ) (q r : ℕ) → 1 ≤ q → 1 ≤ r → isTaxon o q ≡ true → isTaxon o r ≡ true → plate o q ≡ plate o r
+    → isDuplicate o q ≡ false → isDuplicate o r ≡ false → (a : Bool) → ltb q r ≡ a → (b : Bool) → ltb r q ≡ b → q ≡ r
+differ o q r lq lr tq tr e uq ur true a b bb = absurd (undoubled o r ur q lq (ltb-true q r a) tq e)
+differ o q r lq lr tq tr e uq ur false a true b = absurd (undoubled o q uq r lr (ltb-true r q b) tr (sym e))
+differ o q r lq lr tq tr e uq ur false a false b = omega (arith, ltb-false q r a, ltb-false r q b)
+
+-- ---- the rows
+sized : (o : List ℕ) → (eqb (length o) 0 || not (eqb (length o % 16) 0)) ≡ false → (1 ≤ size o) × (length o ≡ 16 * size o)
+sized o e =
+    let f = or-false (eqb (length o) 0) (not (eqb (length o % 16) 0)) e in
+    omega (arith, eqb-false (length o) 0 (f .0), eqb-true (length o % 16) 0 (not-false _ (f .1)))
+
+-- rows 2 and 3
+pub sizes-kept : (o : List ℕ) → sizeRows o .number ≡ 0 → (1 ≤ size o) × (length o ≡ 16 * size o) × (size o ≤ mostRecords)
+unfolding sizeRows
+sizes-kept o e =
+    let rows = both-pass _ _ e in
+    let s = sized o (row-fails _ _ (rows .0)) in
+    (s .0, s .1, ltb-false _ _ (row-fails _ _ (rows .1)))
+
+-- with rows 5 to 8
+pub rows-kept : (o : List ℕ) → sizeRows o .number ≡ 0 → recordRows o .number ≡ 0 → Kept o
+unfolding recordRows records
+rows-kept o e d =
+    let sizes = sizes-kept o e in
+    let fields = both-pass _ _ d in
+    let links = both-pass _ _ (fields .1) in
+    let few = both-pass _ _ (links .1) in
+    let field = lowest-none (badField o) (size o) (row-at-fails _ (badField o) o (fields .0)) in
+    let link = lowest-none (badLink o) (size o) (row-at-fails _ (badLink o) o (links .0)) in
+    let plates = lowest-none (isDuplicate o) (size o) (row-at-fails _ (isDuplicate o) o (few .1)) in
+    record {
+      whole = sizes .1;
+      size-most = sizes .2;
+      ranged = λ r l u. ranged-by o r _ refl (field r l u);
+      linked = record {
+        filled = sizes .0;
+        next-later = λ r l u. own-links o r (link r l u) .0;
+        first-later = λ r l u. own-links o r (link r l u) .1;
+        root-alone = root-by o (link 1 (omega arith) (sizes .0));
+        named-once = λ q l u. named-by o q l (link q (omega arith) u);
+      };
+      taxa-most = ltb-false _ _ (row-fails _ _ (few .0));
+      plates-differ = λ q r lq uq lr ur tq tr same.
+          differ o q r lq lr tq tr same (plates q lq uq) (plates r lr ur) (ltb q r) refl (ltb r q) refl;
+    }
+
+-- what the check establishes
+pub accepted-kept : (o : List ℕ) → isAccepted o ≡ true → Kept o
+unfolding checked
+accepted-kept o e = let rows = both-pass _ _ (eqb-true _ _ e) in rows-kept o (rows .0) (rows .1)

@@ -1,0 +1,51 @@
+-- An outline: N records of 16 bytes, numbered from 1. Record 1 is the root.
+use Prim.Native.Nat.{ℕ, _+_, _*_, _-_, _/_, _≤_}
+use mathlib.Core.Bool.{Bool}
+use mathlib.Core.List.{List}
+use lib.ListN.{length, getD}
+use lib.Dec.{eqb}
+use Rattle.outline.specs.Lists.{from}
+
+-- the numbers of two and of four bytes at a place, least significant byte first
+unfoldable pub short : List ℕ → ℕ → ℕ
+short o at = getD o at 0 + 256 * getD o (at + 1) 0
+
+unfoldable pub long : List ℕ → ℕ → ℕ
+long o at = short o at + 65536 * short o (at + 2)
+
+-- N, the number of records
+abbrev pub size : List ℕ → ℕ
+size o = length o / 16
+
+-- the records' numbers
+unfoldable pub records : List ℕ → List ℕ
+records o = from 1 (size o)
+
+-- r is a record's number
+pub record Recorded (o : List ℕ) (r : ℕ) : Type 0 where
+  pub low : 1 ≤ r
+  pub high : r ≤ size o
+
+-- bytes 0 to 1: the record of the next member under the same heading; 0 ends the chain
+abbrev pub next : List ℕ → ℕ → ℕ
+next o r = short o (16 * (r - 1))
+
+-- bytes 2 to 3: the record of the first member
+abbrev pub first : List ℕ → ℕ → ℕ
+first o r = short o (16 * (r - 1) + 2)
+
+-- bytes 4 to 7: the length of the branch above the record
+abbrev pub branch : List ℕ → ℕ → ℕ
+branch o r = long o (16 * (r - 1) + 4)
+
+-- bytes 8 to 11
+abbrev pub price : List ℕ → ℕ → ℕ
+price o r = long o (16 * (r - 1) + 8)
+
+-- bytes 12 to 15
+abbrev pub plate : List ℕ → ℕ → ℕ
+plate o r = long o (16 * (r - 1) + 12)
+
+-- a first of 0 makes the record a taxon, otherwise it is a group
+abbrev pub isTaxon : List ℕ → ℕ → Bool
+isTaxon o r = eqb (first o r) 0

@@ -1,0 +1,62 @@
+-- The conditions of refusals 5 to 8: what is wrong with a record, and how many taxa there are.
+use Prim.Native.Nat.{ℕ, _+_, _-_}
+use mathlib.Core.Bool.{Bool, _||_, _&&_, not}
+use mathlib.Core.List.{List}
+use lib.Dec.{eqb, ltb, leb}
+use Rattle.outline.specs.Lists.{pick, one, from, anywhere, total}
+use Rattle.outline.specs.Outline.{size, records, next, first, branch, price, plate, isTaxon}
+use Rattle.outline.specs.declared.rules.Rule.{Rule}
+use Rattle.outline.specs.declared.rules.Rule.the-variants.{Field, Link, Duplicate}
+
+-- the ranges: a length, and a taxon's price
+abbrev pub longestBranch : ℕ
+longestBranch = 1000000
+
+abbrev pub highestPrice : ℕ
+highestPrice = 65535
+
+-- refusal 5: length, price or plate outside its range. A taxon's plate is not 0, a group's price and plate are
+unfoldable pub badField : List ℕ → ℕ → Bool
+badField o r =
+    ltb longestBranch (branch o r)
+    || pick (isTaxon o r)
+    (ltb highestPrice (price o r) || eqb (plate o r) 0)
+    (not (eqb (price o r) 0) || not (eqb (plate o r) 0))
+
+-- a link of record r that isn't 0 and isn't a later record's number up to N
+abbrev pub stray : List ℕ → ℕ → ℕ → Bool
+stray o r link = not (eqb link 0) && (leb link r || ltb (size o) link)
+
+-- how many of record r's two links hold q
+unfoldable pub naming : List ℕ → ℕ → ℕ → ℕ
+naming o q r = one (eqb (next o r) q) + one (eqb (first o r) q)
+
+-- how many link fields hold q
+unfoldable pub named : List ℕ → ℕ → ℕ
+named o q = total (naming o q) (records o)
+
+-- refusal 6: one of its own two links is stray, or it is record 1 and its next isn't 0, or it is record 2 or later and
+-- its number stands in no link field or in more than one
+unfoldable pub badLink : List ℕ → ℕ → Bool
+badLink o r =
+    stray o r (next o r)
+    || stray o r (first o r)
+    || pick (eqb r 1) (not (eqb (next o r) 0)) (not (eqb (named o r) 1))
+
+-- how many taxa there are, for refusal 7
+unfoldable pub taxa : List ℕ → ℕ
+taxa o = total (λ r. one (isTaxon o r)) (records o)
+
+-- record r is the taxon of plate p
+unfoldable pub hasPlate : List ℕ → ℕ → ℕ → Bool
+hasPlate o p r = isTaxon o r && eqb (plate o r) p
+
+-- refusal 8: the plate is already at an earlier taxon
+unfoldable pub isDuplicate : List ℕ → ℕ → Bool
+isDuplicate o r = anywhere (hasPlate o (plate o r)) (from 1 (r - 1))
+
+-- the three conditions on a record, by the name that the code has for each
+unfoldable pub breaks : List ℕ → Rule → ℕ → Bool
+breaks o Field = badField o
+breaks o Link = badLink o
+breaks o Duplicate = isDuplicate o

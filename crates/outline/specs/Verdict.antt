@@ -1,0 +1,86 @@
+-- The table of refusals, row by row, as far as it concerns an outline alone, and what the finder gives.
+use Prim.Native.Nat.{ℕ, _-_, _*_, _%_}
+use mathlib.Core.Bool.{Bool, _||_, not}
+use mathlib.Core.List.{List, []}
+use lib.ListN.{length, take, drop}
+use lib.Dec.{eqb, ltb}
+use Rattle.outline.specs.Lists.{pick, lowest}
+use Rattle.outline.specs.Outline.{size, records}
+use Rattle.outline.specs.Rules.{badField, badLink, taxa, hasPlate, isDuplicate}
+use Rattle.outline.specs.declared.verdict.Verdict.{Verdict}
+use Rattle.outline.specs.declared.verdict.Refusal.{Refusal}
+
+-- what a call is told: a refusal's number in the table and its place, or 0 and 0
+pub record Told : Type 0 where
+  pub number : ℕ
+  pub place : ℕ
+
+abbrev pub passed : Told
+passed = record { number = 0; place = 0 }
+
+-- the number and the place of each refusal; beside it the table's word for it
+abbrev pub refusal : Refusal → Told
+refusal Refusal.UnknownWay = record { number = 1; place = 0 }  -- way
+refusal Refusal.PartialRecord = record { number = 2; place = 0 }  -- ragged
+refusal Refusal.TooManyRecords = record { number = 3; place = 0 }  -- thick
+refusal Refusal.CountTooLarge = record { number = 4; place = 0 }  -- count
+refusal (Refusal.FieldOutOfRange r) = record { number = 5; place = r }  -- field
+refusal (Refusal.BadLink r) = record { number = 6; place = r }  -- link
+refusal Refusal.TooManyTaxa = record { number = 7; place = 0 }  -- crowd
+refusal (Refusal.DuplicatePlate r) = record { number = 8; place = r }  -- twin
+refusal Refusal.BufferTooShort = record { number = 9; place = 0 }  -- space
+
+abbrev pub told : Verdict → Told
+told Verdict.Accepted = passed
+told (Verdict.Refused e) = refusal e
+
+-- rows in their order: the first that holds is given
+infixr 20 _▸_
+abbrev pub _▸_ : Told → Told → Told
+a ▸ b = pick (eqb (a .number) 0) b a
+
+-- a row whose place is 0, by its condition
+abbrev pub row : ℕ → Bool → Told
+row n holds = pick holds (record { number = n; place = 0 }) passed
+
+-- a row whose place is the lowest record at which its condition holds
+abbrev pub rowAt : ℕ → (ℕ → Bool) → List ℕ → Told
+rowAt n holds o =
+    let place = lowest holds (records o) in
+    pick (eqb place 0) passed (record { number = n; place = place })
+
+-- at most so many records and taxa
+abbrev pub mostRecords : ℕ
+mostRecords = 127
+
+abbrev pub mostTaxa : ℕ
+mostTaxa = 64
+
+-- rows 2 and 3
+unfoldable pub sizeRows : List ℕ → Told
+sizeRows o =
+    row 2 (eqb (length o) 0 || not (eqb (length o % 16) 0))
+    ▸ row 3 (ltb mostRecords (size o))
+
+-- rows 5 to 8
+unfoldable pub recordRows : List ℕ → Told
+recordRows o =
+    rowAt 5 (badField o) o
+    ▸ rowAt 6 (badLink o) o
+    ▸ row 7 (ltb mostTaxa (taxa o))
+    ▸ rowAt 8 (isDuplicate o) o
+
+-- what the check alone gives
+unfoldable pub checked : List ℕ → Told
+checked o = sizeRows o ▸ recordRows o
+
+abbrev pub isAccepted : List ℕ → Bool
+isAccepted o = eqb (checked o .number) 0
+
+-- the 16 bytes of record r; no bytes for 0
+unfoldable pub bytesOf : List ℕ → ℕ → List ℕ
+bytesOf o r = pick (eqb r 0) [] (take 16 (drop (16 * (r - 1)) o))
+
+-- the bytes of the taxon of plate p; none if the outline is refused or no taxon has the plate
+unfoldable pub found : List ℕ → ℕ → List ℕ
+found o p = pick (isAccepted o) (bytesOf o (lowest (hasPlate o p) (records o))) []

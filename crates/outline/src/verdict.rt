@@ -1,0 +1,75 @@
+// What the check of an outline answers: the first row of the table of refusals that holds, and its place.
+ghost use mathlib.Core.Path.{_≡_};
+ghost use Rattle.outline.specs.Verdict.{told, sizeRows, recordRows, checked};
+use super::rules::Rule;
+use super::rules::broken_at;
+use super::rules::taxa_of;
+
+pub const MOST_RECORDS: usize = 127;
+
+pub const MOST_TAXA: usize = 64;
+
+// The rows of the table. A number is the place: the lowest record at fault.
+pub enum Refusal {
+    UnknownWay,
+    PartialRecord,
+    TooManyRecords,
+    CountTooLarge,
+    FieldOutOfRange(usize),
+    BadLink(usize),
+    TooManyTaxa,
+    DuplicatePlate(usize),
+    BufferTooShort,
+}
+
+pub enum Verdict {
+    Accepted,
+    Refused(Refusal),
+}
+
+// Rows 2 and 3: whether an outline is whole records, and not too many.
+pub fn check_size(outline: &[u8]) -> Verdict
+    ensures { λ v. ⌜ told v ≡ sizeRows (now (outline .entry)) ⌝ }
+{
+    let len = outline.len();
+    if (len == 0) | (len % 16 != 0) {
+        return Verdict::Refused(Refusal::PartialRecord);
+    }
+    if MOST_RECORDS < len / 16 {
+        return Verdict::Refused(Refusal::TooManyRecords);
+    }
+    Verdict::Accepted
+}
+
+// Rows 5 to 8: whether the records keep every rule.
+pub fn check_records(outline: &[u8]) -> Verdict
+    ensures { λ v. ⌜ told v ≡ recordRows (now (outline .entry)) ⌝ }
+{
+    let field = broken_at(outline, Rule::Field);
+    if field != 0 {
+        return Verdict::Refused(Refusal::FieldOutOfRange(field));
+    }
+    let link = broken_at(outline, Rule::Link);
+    if link != 0 {
+        return Verdict::Refused(Refusal::BadLink(link));
+    }
+    if MOST_TAXA < taxa_of(outline) {
+        return Verdict::Refused(Refusal::TooManyTaxa);
+    }
+    let duplicate = broken_at(outline, Rule::Duplicate);
+    if duplicate != 0 {
+        return Verdict::Refused(Refusal::DuplicatePlate(duplicate));
+    }
+    Verdict::Accepted
+}
+
+// Whether an outline is accepted, or the first row of the table that refuses it.
+pub fn check(outline: &[u8]) -> Verdict
+    ensures { λ v. ⌜ told v ≡ checked (now (outline .entry)) ⌝ }
+{
+    let size = check_size(outline);
+    match size {
+        Verdict::Accepted => check_records(outline),
+        Verdict::Refused(_) => size,
+    }
+}

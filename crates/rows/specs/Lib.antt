@@ -1,0 +1,2 @@
+-- The rows of the method, as functions of the page count.
+pub mod Rows

@@ -1,0 +1,66 @@
+-- The rows of the table, by recursion over a forest: a row is pushed through the forest, from its last clade to its first.
+use Prim.Native.Nat.{ℕ, _-_}
+use mathlib.Core.Bool.{Bool, not}
+use mathlib.Core.List.{List}
+use Rattle.outline.specs.Lists.{pick}
+use Rattle.outline.specs.Outline.{branch, price}
+use Rattle.diversity.proofs.Forest.{Forest, empty, node}
+use Rattle.diversity.proofs.Measures.{isGroup}
+use Rattle.diversity.proofs.Candidate.{Value, nothingWorth, Cand, none, some, betterOf, joinOf, chargeOf, oneAt}
+
+-- a candidate for each page count
+abbrev pub Row : Type 0
+Row = ℕ → Cand
+
+abbrev pub betterRow : Row → Row → Row
+betterRow x y b = betterOf (x b) (y b)
+
+-- the one value, together with what the row has for the rest of the page count
+unfoldable pub joinRow : Value → Row → Row
+joinRow v x b = joinOf (oneAt v b) (x (b - v .cost))
+
+-- a record with these members is a taxon
+abbrev pub isLeaf : Forest → Bool
+isLeaf f = not (isGroup f)
+
+module _ (o : List ℕ) (code : ℕ → ℕ) where
+  -- what a taxon alone is worth
+  abbrev pub taxonRooted : ℕ → Value
+  taxonRooted r = record { diversity = branch o r; cost = price o r; code = code r }
+
+  abbrev pub taxonUnrooted : ℕ → Value
+  taxonUnrooted r = record { diversity = 0; cost = price o r; code = code r }
+
+  -- something in r's clade, and then what may follow: x follows a taxon, g has a group's members with what follows
+  unfoldable pub cladeRow : ℕ → Bool → Row → Row → Row
+  cladeRow r taxon x g b = pick taxon (joinRow (taxonRooted r) x b) (chargeOf (g b) (branch o r))
+
+  -- something in the forest, and then what x has
+  unfoldable pub pushed : Forest → Row → Row
+  pushed empty x b = none
+  pushed (node r f n) x b =
+      let y : Row = pushed n x in
+      let follow : Row = betterRow x y in
+      betterOf (cladeRow r (isLeaf f) follow (pushed f follow) b) (y b)
+
+  -- something in the forest, and then nothing
+  unfoldable pub rootedRow : Forest → Row
+  rootedRow F = pushed F (λ b. some nothingWorth)
+
+  -- something in r's clade, and then nothing
+  unfoldable pub aloneRow : ℕ → Bool → Forest → Row
+  aloneRow r taxon f b = pick taxon (oneAt (taxonRooted r) b) (chargeOf (rootedRow f b) (branch o r))
+
+  -- something in r's clade, and something in the rest of its chain
+  unfoldable pub crossRow : ℕ → Bool → Forest → Forest → Row
+  crossRow r taxon f n = cladeRow r taxon (rootedRow n) (pushed f (rootedRow n))
+
+  -- a taxon alone, unrooted
+  unfoldable pub singleRow : ℕ → Bool → Row
+  singleRow r taxon b = pick taxon (oneAt (taxonUnrooted r) b) none
+
+  -- something in the forest, unrooted
+  unfoldable pub acrossRow : Forest → Row
+  acrossRow empty b = none
+  acrossRow (node r f n) b =
+      betterOf (betterOf (betterOf (singleRow r (isLeaf f) b) (acrossRow f b)) (acrossRow n b)) (crossRow r (isLeaf f) f n b)
