@@ -1,4 +1,5 @@
 -- What the best choice is: the definitions that a reader has to believe, and the starred cases.
+pub mod Behind
 pub mod Diversity
 pub mod Search
 pub mod Starred

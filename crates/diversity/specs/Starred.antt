@@ -1,9 +1,13 @@
--- The starred cases of document 01, A1 to E, in one list: what choosing has to give for each.
+-- The starred cases of document 01, A1 to E, in one list, and that the definitions give what each case says.
 use Prim.Native.Nat.{ℕ, zero, suc, _/_, _%_}
+use mathlib.Core.Path.{_≡_, refl}
 use mathlib.Core.List.{List, [], _∷_, _++_, map}
-use Rattle.outline.specs.Verdict.{Told, passed, checked}
-use Rattle.diversity.specs.Diversity.{diversity, cost, members}
-use Rattle.diversity.specs.Search.{optimum, bestDiversity, leastCost, spare}
+use Rattle.outline.specs.Lists.{from, anywhere, total, lowest}
+use Rattle.outline.specs.Outline.{short, long, records}
+use Rattle.outline.specs.Rules.{badField, naming, named, badLink, taxa, hasPlate, isDuplicate}
+use Rattle.outline.specs.Verdict.{Told, passed, sizeRows, recordRows, checked}
+use Rattle.diversity.specs.Diversity.{chain, clade, chosen, within, elsewhere, rooted, unrooted, diversity, cost, members}
+use Rattle.diversity.specs.Search.{subsets, leads, better, taken, turn, exhaustiveSearch, setOf, optimum, bestDiversity, leastCost, level, spare}
 
 -- what choosing gives: what the check tells of the outline, the marks, and the four numbers
 pub record Choice : Type 0 where
@@ -49,31 +53,31 @@ computed c =
 
 -- ---- the outlines
 -- the k bytes of a number, least significant first
-unfoldable pub bytes : ℕ → ℕ → List ℕ
+bytes : ℕ → ℕ → List ℕ
 bytes zero n = []
 bytes (suc k) n = (n % 256) ∷ bytes k (n / 256)
 
 -- a record: next, first, length, price, plate
-unfoldable pub entry : ℕ → ℕ → ℕ → ℕ → ℕ → List ℕ
+entry : ℕ → ℕ → ℕ → ℕ → ℕ → List ℕ
 entry next first length price plate = bytes 2 next ++ bytes 2 first ++ bytes 4 length ++ bytes 4 price ++ bytes 4 plate
 
-unfoldable pub treeA : List ℕ
+treeA : List ℕ
 treeA = entry 0 2 0 0 0 ++ entry 5 3 3 0 0 ++ entry 4 0 4 3 11 ++ entry 0 0 2 1 12 ++ entry 0 0 5 2 13
 
 -- B: root (length 0), group of length 7, one taxon of length 0 and price 2
-unfoldable pub treeB : List ℕ
+treeB : List ℕ
 treeB = entry 0 2 0 0 0 ++ entry 0 3 7 0 0 ++ entry 0 0 0 2 1
 
 -- C: two taxa under a root of length 0, of one length and one price
-unfoldable pub treeC : ℕ → ℕ → List ℕ
+treeC : ℕ → ℕ → List ℕ
 treeC length price = entry 0 2 0 0 0 ++ entry 3 0 length price 1 ++ entry 0 0 length price 2
 
 -- D: three taxa under a root of length 0, lengths 6, 5, 5, prices 3, 2, 2
-unfoldable pub treeD : List ℕ
+treeD : List ℕ
 treeD = entry 0 2 0 0 0 ++ entry 3 0 6 3 1 ++ entry 4 0 5 2 2 ++ entry 0 0 5 2 3
 
 -- E: one taxon, length 5, price 1
-unfoldable pub treeE : List ℕ
+treeE : List ℕ
 treeE = entry 0 0 5 1 1
 
 -- ---- the cases
@@ -88,7 +92,7 @@ rival marks diversity cost = record { marks = marks; diversity = diversity; cost
 abbrev given : List ℕ → ℕ → ℕ → Choice → List Rival → Case
 given outline way count gives rivals = record { outline = outline; way = way; count = count; gives = gives; rivals = rivals }
 
-unfoldable pub starred : List Case
+pub starred : List Case
 starred =
     -- A1: plate 12 alone, not 13 at equal diversity; spare 1
     given treeA 0 2 (selects (0 ∷ 0 ∷ 0 ∷ 1 ∷ 0 ∷ []) 5 1 1 1) (rival (0 ∷ 0 ∷ 0 ∷ 0 ∷ 1 ∷ []) 5 2 ∷ [])
@@ -113,3 +117,8 @@ starred =
     ∷ given treeE 0 1 (selects (1 ∷ []) 5 1 1 0) []
     ∷ given treeE 1 1 (selects (0 ∷ []) 0 0 0 1) []
     ∷ []
+
+-- each case of the list is what the definitions give for it
+pub starred-hold : map computed starred ≡ starred
+unfolding from anywhere total lowest short long records badField naming named badLink taxa hasPlate isDuplicate sizeRows recordRows checked chain clade chosen within elsewhere rooted unrooted diversity cost members subsets leads better taken turn exhaustiveSearch setOf optimum bestDiversity leastCost level spare bytes entry treeA treeB treeC treeD treeE starred
+starred-hold = refl

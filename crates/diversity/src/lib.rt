@@ -1,1 +1,2 @@
-// Diversity of sets of taxa, and the best set for a page count: definitions and their laws, no code.
+// Diversity of sets of taxa, and the best set for a page count: the definitions, and the starred cases that they have to
+// meet. No code.

@@ -1,16 +1,16 @@
 -- What the finder gives: the record of the one taxon that has the plate, where the outline is accepted and there is one.
 use Prim.Native.Nat.{ℕ, _+_, _*_, _-_, _≤_, _<_}
-use mathlib.Core.Path.{_≡_, refl, sym, ap, _∙_}
+use mathlib.Core.Path.{_≡_, refl, sym, _∙_}
 use mathlib.Core.Bool.{Bool, true, false, false≢true}
 use mathlib.Core.List.{List, []}
 use mathlib.Core.Logic.{_↔_}
 use native.Mathlib.Omega.{arith}
-use lib.ListN.{length, getD, take, drop, length-drop}
+use lib.ListN.{length, take, drop, length-drop}
 use lib.Seq.{length-take-le, getD-take, getD-drop}
 use lib.Dec.{eqb}
 use borrow.Author.Tests.{eqb-true, eqb-false, eq-eqb, ne-eqb}
 use Rattle.outline.specs.Lists.{pick, lowest}
-use Rattle.outline.specs.Outline.{short, long, size, records, next, first, branch, price, plate, isTaxon}
+use Rattle.outline.specs.Outline.{short, long, size, records, next, plate, isTaxon}
 use Rattle.outline.specs.Rules.{hasPlate}
 use Rattle.outline.specs.Verdict.{isAccepted, bytesOf, found}
 use Rattle.outline.proofs.Kept.{Kept, accepted-kept}

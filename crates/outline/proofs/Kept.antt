@@ -1,5 +1,5 @@
 -- What an accepted outline keeps: its size, its fields, its links, at most 64 taxa, and no plate twice.
-use Prim.Native.Nat.{ℕ, _+_, _*_, _%_, _≤_, _<_}
+use Prim.Native.Nat.{ℕ, _*_, _%_, _≤_, _<_}
 use mathlib.Core.Path.{_≡_, refl, sym, _∙_}
 use mathlib.Core.Bool.{Bool, true, false, _||_, not, false≢true}
 use mathlib.Core.List.{List}
@@ -8,7 +8,7 @@ use lib.ListN.{length}
 use lib.Dec.{eqb, ltb}
 use borrow.Author.Tests.{eqb-true, eqb-false, ltb-true, ltb-false, leb-false, ne-eqb, not-false}
 use Rattle.outline.specs.Outline.{size, records, next, first, branch, price, plate, isTaxon}
-use Rattle.outline.specs.Rules.{longestBranch, highestPrice, badField, stray, named, badLink, taxa, hasPlate, isDuplicate}
+use Rattle.outline.specs.Rules.{badField, stray, named, badLink, taxa, hasPlate, isDuplicate}
 use Rattle.outline.specs.Verdict.{mostRecords, mostTaxa, sizeRows, recordRows, checked, isAccepted}
 use Rattle.outline.proofs.Rows.{both-pass, row-fails, row-at-fails}
 use Rattle.outline.proofs.Tests.{or-false, and-false}
@@ -29,8 +29,8 @@ pub record Linked (o : List ℕ) : Type 0 where
 
 -- the fields of record r are in their ranges
 pub record Ranged (o : List ℕ) (r : ℕ) : Type 0 where
-  pub branch-most : branch o r ≤ longestBranch
-  pub price-most : price o r ≤ highestPrice
+  pub branch-most : branch o r ≤ 1000000
+  pub price-most : price o r ≤ 65535
   pub taxon-plate : isTaxon o r ≡ true → 1 ≤ plate o r
   pub group-price : isTaxon o r ≡ false → price o r ≡ 0
   pub group-plate : isTaxon o r ≡ false → plate o r ≡ 0

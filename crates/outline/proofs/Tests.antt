@@ -1,5 +1,5 @@
 -- Tests: joined ones that fail, and tests as numbers, in the code and in the definitions.
-use Prim.Native.Nat.{ℕ, _≤_}
+use Prim.Native.Nat.{_≤_}
 use mathlib.Core.Path.{_≡_, refl, sym}
 use mathlib.Core.Bool.{Bool, true, false, _||_, _&&_, false≢true}
 use native.Mathlib.Omega.{arith}

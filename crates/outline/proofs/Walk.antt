@@ -1,7 +1,7 @@
 -- Loops through the numbers 1 to n, by what each has yet to pass: one that sums, and one that seeks the lowest number at
 -- which a test holds; and what `lowest` then tells.
 use Prim.Native.Nat.{ℕ, zero, suc, _+_, _*_, _-_, _≤_, _<_}
-use mathlib.Core.Path.{_≡_, refl, sym, ap, _∙_}
+use mathlib.Core.Path.{_≡_, refl, ap, _∙_}
 use mathlib.Core.Bool.{Bool, true, false, not}
 use mathlib.Core.List.{List, [], _∷_}
 use native.Mathlib.Omega.{arith}

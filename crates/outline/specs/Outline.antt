@@ -1,5 +1,5 @@
 -- An outline: N records of 16 bytes, numbered from 1. Record 1 is the root.
-use Prim.Native.Nat.{ℕ, _+_, _*_, _-_, _/_, _≤_}
+use Prim.Native.Nat.{ℕ, _+_, _*_, _-_, _/_}
 use mathlib.Core.Bool.{Bool}
 use mathlib.Core.List.{List}
 use lib.ListN.{length, getD}
@@ -20,11 +20,6 @@ size o = length o / 16
 -- the records' numbers
 unfoldable pub records : List ℕ → List ℕ
 records o = from 1 (size o)
-
--- r is a record's number
-pub record Recorded (o : List ℕ) (r : ℕ) : Type 0 where
-  pub low : 1 ≤ r
-  pub high : r ≤ size o
 
 -- bytes 0 to 1: the record of the next member under the same heading; 0 ends the chain
 abbrev pub next : List ℕ → ℕ → ℕ

@@ -5,22 +5,13 @@ use mathlib.Core.List.{List}
 use lib.Dec.{eqb, ltb, leb}
 use Rattle.outline.specs.Lists.{pick, one, from, anywhere, total}
 use Rattle.outline.specs.Outline.{size, records, next, first, branch, price, plate, isTaxon}
-use Rattle.outline.specs.declared.rules.Rule.{Rule}
-use Rattle.outline.specs.declared.rules.Rule.the-variants.{Field, Link, Duplicate}
-
--- the ranges: a length, and a taxon's price
-abbrev pub longestBranch : ℕ
-longestBranch = 1000000
-
-abbrev pub highestPrice : ℕ
-highestPrice = 65535
 
 -- refusal 5: length, price or plate outside its range. A taxon's plate is not 0, a group's price and plate are
 unfoldable pub badField : List ℕ → ℕ → Bool
 badField o r =
-    ltb longestBranch (branch o r)
+    ltb 1000000 (branch o r)
     || pick (isTaxon o r)
-    (ltb highestPrice (price o r) || eqb (plate o r) 0)
+    (ltb 65535 (price o r) || eqb (plate o r) 0)
     (not (eqb (price o r) 0) || not (eqb (plate o r) 0))
 
 -- a link of record r that isn't 0 and isn't a later record's number up to N
@@ -54,9 +45,3 @@ hasPlate o p r = isTaxon o r && eqb (plate o r) p
 -- refusal 8: the plate is already at an earlier taxon
 unfoldable pub isDuplicate : List ℕ → ℕ → Bool
 isDuplicate o r = anywhere (hasPlate o (plate o r)) (from 1 (r - 1))
-
--- the three conditions on a record, by the name that the code has for each
-unfoldable pub breaks : List ℕ → Rule → ℕ → Bool
-breaks o Field = badField o
-breaks o Link = badLink o
-breaks o Duplicate = isDuplicate o

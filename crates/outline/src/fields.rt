@@ -2,7 +2,8 @@
 ghost use mathlib.Core.Path.{_≡_};
 ghost use Prim.Native.Nat.{_+_, _<_};
 ghost use lib.ListN.{length};
-ghost use Rattle.outline.specs.Outline.{Recorded, short, long, next, first, branch, price, plate, isTaxon};
+ghost use Rattle.outline.specs.Inner.{Recorded};
+ghost use Rattle.outline.specs.Outline.{short, long, next, first, branch, price, plate, isTaxon};
 
 // The number of two bytes at a place.
 fn short_at(o: &[u8], at: usize) -> u16

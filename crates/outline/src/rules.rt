@@ -2,18 +2,15 @@
 ghost use mathlib.Core.Path.{_≡_};
 ghost use Prim.Native.Nat.{_≤_};
 ghost use Rattle.outline.specs.Lists.{from, lowest};
-ghost use Rattle.outline.specs.Outline.{Recorded, size, records};
-ghost use Rattle.outline.specs.Rules.{badField, stray, naming, named, badLink, taxa, hasPlate, isDuplicate, breaks};
+ghost use Rattle.outline.specs.Inner.{Recorded, breaks};
+ghost use Rattle.outline.specs.Outline.{size, records};
+ghost use Rattle.outline.specs.Rules.{badField, stray, naming, named, badLink, taxa, hasPlate, isDuplicate};
 use super::fields::branch_of;
 use super::fields::first_of;
 use super::fields::is_taxon;
 use super::fields::next_of;
 use super::fields::plate_of;
 use super::fields::price_of;
-
-pub const LONGEST_BRANCH: u32 = 1000000;
-
-pub const HIGHEST_PRICE: u32 = 65535;
 
 // The rules that each record has to keep.
 pub enum Rule {
@@ -27,11 +24,11 @@ fn bad_field(o: &[u8], r: usize) -> bool
     requires { ⌜ Recorded (now o) r ⌝ }
     ensures { λ v. ⌜ v ≡ badField (now (o .entry)) r ⌝ }
 {
-    let long = LONGEST_BRANCH < branch_of(o, r);
+    let long = 1000000 < branch_of(o, r);
     let price = price_of(o, r);
     let plate = plate_of(o, r);
     if is_taxon(o, r) {
-        long | ((HIGHEST_PRICE < price) | (plate == 0))
+        long | ((65535 < price) | (plate == 0))
     } else {
         long | ((price != 0) | (plate != 0))
     }

@@ -3,9 +3,9 @@ use Prim.Native.Nat.{ℕ, _+_, _-_, _≤_}
 use native.Mathlib.Omega.{arith}
 use mathlib.Core.Path.{_≡_, refl, ap}
 use mathlib.Core.Logic.{_⊎_}
-use Rattle.diversity.proofs.Candidate.{Value, plus, charge, Cand, joinOf, chargeOf}
-use Rattle.diversity.proofs.Order.{atleast-both, atleast-charge}
-use Rattle.diversity.proofs.Best.{From, nothing, this, Covers, by, Best, best-one, best-either}
+use Rattle.laws.proofs.Candidate.{Value, plus, charge, Cand, joinOf, chargeOf}
+use Rattle.laws.proofs.Order.{atleast-both, atleast-charge}
+use Rattle.laws.proofs.Best.{From, nothing, this, Covers, by, Best, best-one, best-either}
 use Rattle.rows.specs.Rows.{Row, betterRow, joinRow}
 
 pub covers-join : {c d : Cand} {v w : Value} → Covers c v → Covers d w → Covers (joinOf c d) (plus v w)

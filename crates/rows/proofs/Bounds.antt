@@ -7,14 +7,14 @@ use lib.Pow.{pow-mono}
 use Rattle.outline.specs.Lists.{pick, total}
 use Rattle.outline.specs.Outline.{size, next, first, branch, price, records, isTaxon}
 use Rattle.outline.proofs.Kept.{Linked}
-use Rattle.diversity.proofs.Sums.{total-ext, total-most}
-use Rattle.diversity.proofs.Forest.{Forest, empty, node, sumIn, tree, tree-step, sum-part}
-use Rattle.diversity.proofs.Candidate.{Value, Cand}
-use Rattle.diversity.proofs.Best.{From, nothing, this, from-better, from-same}
+use Rattle.laws.proofs.Sums.{total-ext, total-most}
+use Rattle.laws.proofs.Forest.{Forest, empty, node, sumIn, tree, tree-step, sum-part}
+use Rattle.laws.proofs.Candidate.{Value, Cand}
+use Rattle.laws.proofs.Best.{From, nothing, this, from-better, from-same}
 use Rattle.rows.proofs.BestRows.{from-charge, from-join-row}
 use Rattle.rows.specs.Rows.{Row, betterRow, isLeaf, taxonRooted, cladeRow, pushed, rootedRow, crossRow}
 use Rattle.rows.proofs.Steps.{leaf-taxon}
-use Rattle.diversity.proofs.Numbers.{taxaIn, weight, weights-below}
+use Rattle.laws.proofs.Numbers.{taxaIn, weight, weights-below}
 
 -- at most d of diversity, and a code of at most m
 pub record Small (d m : ℕ) (v : Value) : Type 0 where

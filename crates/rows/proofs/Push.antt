@@ -8,10 +8,10 @@ use native.Mathlib.Omega.{arith}
 use borrow.Author.Tests.{eq-eqb}
 use Rattle.outline.specs.Outline.{branch, price}
 use Rattle.outline.specs.Lists.{one}
-use Rattle.diversity.proofs.Forest.{Forest, empty, node, countIn}
-use Rattle.diversity.proofs.Candidate.{Value, plus, charge, nothingWorth, Cand, betterOf}
-use Rattle.diversity.proofs.Order.{value-path, plus-assoc, plus-charge}
-use Rattle.diversity.proofs.Best.{Best, best-same, best-unique, best-none, best-nothing, best-one, best-either}
+use Rattle.laws.proofs.Forest.{Forest, empty, node, countIn}
+use Rattle.laws.proofs.Candidate.{Value, plus, charge, nothingWorth, Cand, betterOf}
+use Rattle.laws.proofs.Order.{value-path, plus-assoc, plus-charge}
+use Rattle.laws.proofs.Best.{Best, best-same, best-unique, best-none, best-nothing, best-one, best-either}
 use Rattle.rows.proofs.BestRows.{BestRow, Plus, best-charge, row-either, best-join-row}
 use Rattle.rows.specs.Rows.{Row, isLeaf, taxonRooted, taxonUnrooted, cladeRow, pushed, rootedRow, aloneRow, crossRow, singleRow, acrossRow}
 use Rattle.rows.proofs.Sets.{Sets, Splits, Parts, sets-empty, rootedWorth, unrootedWorth, rooted-splits, unrooted-splits, sets-parted, sets-joined, rooted-taxon, unrooted-taxon, rooted-group, unrooted-group}

@@ -9,11 +9,11 @@ use lib.Dec.{eqb}
 use borrow.Author.Tests.{eq-eqb}
 use Rattle.outline.specs.Lists.{pick, one}
 use Rattle.outline.specs.Outline.{branch, price}
-use Rattle.diversity.proofs.Sums.{one-true, one-false, positive, positive-true}
-use Rattle.diversity.proofs.Forest.{Forest, empty, node, sumIn, countIn}
-use Rattle.diversity.proofs.Measures.{chosenIn, isGroup, groupsIn, weightIn, costIn, rootedIn, across, unrootedIn, rooted-quiet, weight-quiet}
-use Rattle.diversity.proofs.Candidate.{Value, plus, charge}
-use Rattle.diversity.proofs.Order.{value-path}
+use Rattle.laws.proofs.Sums.{one-true, one-false, positive, positive-true}
+use Rattle.laws.proofs.Forest.{Forest, empty, node, sumIn, countIn}
+use Rattle.laws.proofs.Measures.{chosenIn, isGroup, groupsIn, weightIn, costIn, rootedIn, across, unrootedIn, rooted-quiet, weight-quiet}
+use Rattle.laws.proofs.Candidate.{Value, plus, charge}
+use Rattle.laws.proofs.Order.{value-path}
 use Rattle.rows.proofs.BestRows.{Charged, Plus}
 use Rattle.rows.specs.Rows.{taxonRooted, taxonUnrooted}
 

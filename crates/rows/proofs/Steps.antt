@@ -7,8 +7,8 @@ use native.Mathlib.Omega.{arith}
 use Rattle.outline.specs.Lists.{pick}
 use Rattle.outline.specs.Outline.{size, next, first, price, isTaxon}
 use Rattle.outline.proofs.Kept.{Linked}
-use Rattle.diversity.proofs.Forest.{Forest, empty, node, tree, tree-zero, tree-step, members-cases, disjoint}
-use Rattle.diversity.proofs.Candidate.{none, betterOf}
+use Rattle.laws.proofs.Forest.{Forest, empty, node, tree, tree-zero, tree-step, members-cases, disjoint}
+use Rattle.laws.proofs.Candidate.{none, betterOf}
 use Rattle.rows.specs.Rows.{Row, betterRow, joinRow, isLeaf, cladeRow, pushed, rootedRow, aloneRow, crossRow, singleRow, acrossRow}
 use Rattle.rows.proofs.Push.{rooted-chain}
 

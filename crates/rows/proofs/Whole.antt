@@ -1,4 +1,4 @@
--- The row of record 1, with the empty set, is what the patient editor ends with.
+-- The row of record 1, with the empty set, holds in every column what the exhaustive search ends with.
 use Prim.Native.Nat.{ℕ, zero, suc, _+_, _-_, _≤_, _<_}
 use mathlib.Core.Path.{_≡_, refl, sym, ap, _∙_}
 use mathlib.Core.Bool.{Bool, true, false, _&&_, and-true, true≢false}
@@ -6,33 +6,24 @@ use mathlib.Core.List.{List, _∷_, map}
 use mathlib.Core.Logic.{_⊎_, inl, inr}
 use native.Mathlib.Omega.{arith}
 use lib.Dec.{eqb}
-use lib.ListN.{getD}
 use Rattle.outline.specs.Lists.{pick, one, from}
 use Rattle.outline.specs.Outline.{size, first, price, records, isTaxon}
 use Rattle.diversity.specs.Diversity.{chosen, diversity, rooted, unrooted, cost}
 use Rattle.diversity.specs.Search.{optimum}
-use Rattle.diversity.proofs.Sums.{one-false, occurs-range, total-term}
+use Rattle.laws.proofs.Sums.{one-false, occurs-range, total-term}
 use Rattle.outline.proofs.Kept.{Linked}
-use Rattle.diversity.proofs.Forest.{Forest, tree, members-cases, sum-all, inside, distinct}
-use Rattle.diversity.proofs.Measures.{chosenIn, isGroup, groupsIn, weight-quiet, rooted-quiet, unrooted-quiet}
-use Rattle.diversity.proofs.ByTree.{Marks, groups-none, rooted-tree, unrooted-tree, cost-tree}
-use Rattle.diversity.proofs.Candidate.{Value, nothingWorth, Cand, some, betterOf}
-use Rattle.diversity.proofs.Order.{value-path}
-use Rattle.diversity.proofs.Best.{Best, best-same, best-nothing, best-either, best-unique}
-use Rattle.diversity.proofs.Numbers.{weight, code, worth, map-at}
-use Rattle.diversity.proofs.Marks.{Marked, done, leave, choose, from-at}
-use Rattle.diversity.proofs.Optimum.{Worths, editor-best}
+use Rattle.laws.proofs.Forest.{Forest, tree, members-cases, sum-all, inside, distinct}
+use Rattle.laws.proofs.Measures.{chosenIn, isGroup, groupsIn, weight-quiet, rooted-quiet, unrooted-quiet}
+use Rattle.laws.proofs.ByTree.{groups-none, rooted-tree, unrooted-tree, cost-tree}
+use Rattle.laws.proofs.Candidate.{Value, nothingWorth, Cand, some, betterOf}
+use Rattle.laws.proofs.Order.{value-path}
+use Rattle.laws.proofs.Best.{Best, best-same, best-nothing, best-either, best-unique}
+use Rattle.laws.proofs.Numbers.{weight, code, worth}
+use Rattle.laws.proofs.Marks.{Marked, done, leave, choose, marked-set, map-at}
+use Rattle.laws.proofs.Optimum.{Worths, optimum-best}
 use Rattle.rows.proofs.Sets.{Agree, Sets, Splits, nobody, sum-zero, rootedWorth, unrootedWorth, rooted-splits, unrooted-splits}
-use Rattle.rows.specs.Rows.{pushed, rootedRow, acrossRow}
+use Rattle.rows.specs.Rows.{rootedRow, acrossRow}
 use Rattle.rows.proofs.Push.{Once, rooted-best, across-best}
-
--- marks by position
-marked-group : {o rs s : List ℕ} → Marked o rs s → (k : ℕ) → isTaxon o (getD rs k 0) ≡ false → getD s k 0 ≡ 0
-marked-group done k e = refl
-marked-group (leave m) zero e = refl
-marked-group (leave m) (suc k) e = marked-group m k e
-marked-group (choose t m) zero e = cc
-marked-group (choose t m) (suc k) e = marked-group m k e
 
 -- the marks of a test
 abbrev marks : (ℕ → Bool) → ℕ → ℕ → List ℕ
@@ -77,16 +68,6 @@ module _ (o : List ℕ) where
   quiet-by false p F z = value-path (unrooted-quiet o p F z) (weight-quiet p (price o) F z) (weight-quiet p (weight o) F z)
 
 module _ (o : List ℕ) (linked : Linked o) where
-  -- marks of the editor's list are sets of taxa
-  marked-marks : {s : List ℕ} → Marked o (records o) s → Marks o s
-  unfolding records chosen
-  marked-marks {s} m = record {
-    taxa-only = λ r l u e.
-        let k : getD (from 1 (size o)) (r - 1) 0 ≡ r = from-at 1 (size o) (r - 1) (omega arith) ∙ omega arith in
-        let z : getD s (r - 1) 0 ≡ 0 = marked-group m (r - 1) (ap (isTaxon o) k ∙ e) in
-        ap (λ n. eqb n 1) z;
-  }
-
   worth-tree : (way : ℕ) {s : List ℕ} → Marked o (records o) s → worth o way s ≡ worthBy o (eqb way 0) (chosen s) (tree o 1)
   unfolding worth diversity code
   worth-tree way {s} m = go (eqb way 0)
@@ -94,9 +75,9 @@ module _ (o : List ℕ) (linked : Linked o) where
       go : (b : Bool) → _≡_ {A = Value} (record { diversity = pick b (rooted o s) (unrooted o s); cost = cost o s; code = code o s }) (worthBy o b (chosen s) (tree o 1))
       go true = value-path (rooted-tree o linked s) (cost-tree o linked s) (sum-all o linked (λ r f. pick (chosen s r) (weight o r) 0))
       go false =
-          value-path (unrooted-tree o linked s (marked-marks m)) (cost-tree o linked s) (sum-all o linked (λ r f. pick (chosen s r) (weight o r) 0))
+          value-path (unrooted-tree o linked s (marked-set m)) (cost-tree o linked s) (sum-all o linked (λ r f. pick (chosen s r) (weight o r) 0))
 
-  -- and sets of taxa are marks of the editor's list
+  -- a set as a test of record numbers, as marks
   module _ (p : ℕ → Bool) (taxa : groupsIn p (tree o 1) ≡ 0) where
     taxa-only : (r : ℕ) → 1 ≤ r → r < 1 + size o → isTaxon o r ≡ false → p r ≡ false
     unfolding records
@@ -136,12 +117,12 @@ module _ (o : List ℕ) (linked : Linked o) where
       where
         go : (k : ℕ) → chosenIn (chosen s) (tree o 1) ≡ k → (v ≡ nothingWorth) ⊎ Sets (worthBy o (eqb way 0)) (tree o 1) v
         go zero z = inl (e ∙ worth-tree way m ∙ quiet-by o (eqb way 0) (chosen s) (tree o 1) z)
-        go (suc k) z = inr (record { set = chosen s; taxa = groups-none o linked s (marked-marks m); some = omega arith; is = e ∙ worth-tree way m })
+        go (suc k) z = inr (record { set = chosen s; taxa = groups-none o linked s (marked-set m); some = omega arith; is = e ∙ worth-tree way m })
 
-  -- the better of the empty set and the row of record 1 is the worth of the editor's set
+  -- the better of the empty set and the row of record 1 is what the best set is worth
   pub row-whole : (way b : ℕ) → betterOf (some nothingWorth) (rowBy o (eqb way 0) (tree o 1) b) ≡ some (worth o way (optimum o way b))
   row-whole way b =
       best-unique
       (best-same (to-worths way) (of-worths way)
       (best-either (best-nothing b) (row-by o (eqb way 0) (tree o 1) (distinct o linked 1 (linked .filled)) b)))
-      (editor-best o way b)
+      (optimum-best o way b)

@@ -4,9 +4,9 @@ use mathlib.Core.Bool.{Bool, not}
 use mathlib.Core.List.{List}
 use Rattle.outline.specs.Lists.{pick}
 use Rattle.outline.specs.Outline.{branch, price}
-use Rattle.diversity.proofs.Forest.{Forest, empty, node}
-use Rattle.diversity.proofs.Measures.{isGroup}
-use Rattle.diversity.proofs.Candidate.{Value, nothingWorth, Cand, none, some, betterOf, joinOf, chargeOf, oneAt}
+use Rattle.laws.proofs.Forest.{Forest, empty, node}
+use Rattle.laws.proofs.Measures.{isGroup}
+use Rattle.laws.proofs.Candidate.{Value, nothingWorth, Cand, none, some, betterOf, joinOf, chargeOf, oneAt}
 
 -- a candidate for each page count
 abbrev pub Row : Type 0

@@ -1,12 +1,11 @@
 -- `outline::finder::find` meets its contract.
 use Prim.Native.Nat.{_+_, _*_, _-_, _≤_}
-use mathlib.Core.Path.{_≡_, sym, ap, _∙_}
-use mathlib.Core.Bool.{true}
+use mathlib.Core.Path.{_≡_}
 use native.Mathlib.Omega.{arith}
 use borrow.Author.Needs.{needs}
 use borrow.Author.Tests.{ne-eqb}
 use Rattle.outline.specs.Outline.{size, records}
-use Rattle.outline.specs.Verdict.{Told, told, isAccepted, found, bytesOf}
+use Rattle.outline.specs.Verdict.{found, bytesOf}
 use Rattle.outline.proofs.Rows.{refusal-not-zero}
 use Rattle.outline.proofs.Walk.{lowest-le}
 use Rattle.outline.proofs.finder.find.Statement.{statement}

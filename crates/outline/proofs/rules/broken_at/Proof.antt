@@ -3,7 +3,7 @@ use Prim.Native.Nat.{_+_, _-_}
 use mathlib.Core.Path.{_∙_, sym}
 use borrow.Author.Needs.{needs}
 use Rattle.outline.specs.Outline.{records}
-use Rattle.outline.specs.Rules.{breaks}
+use Rattle.outline.specs.Inner.{breaks}
 use Rattle.outline.proofs.Walk.{Seeking, seeking-starts, seeking-goes, seeking-finds, seeking-ends}
 use Rattle.outline.proofs.rules.broken_at.Statement.{statement}
 use Rattle.outline.proofs.rules.broken_at.Tie as tie

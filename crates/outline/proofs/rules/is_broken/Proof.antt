@@ -1,6 +1,6 @@
 -- `outline::rules::is_broken` meets its contract: each arm tests its own rule.
 use borrow.Author.Needs.{needs}
-use Rattle.outline.specs.Rules.{breaks}
+use Rattle.outline.specs.Inner.{breaks}
 use Rattle.outline.proofs.rules.is_broken.Statement.{statement}
 use Rattle.outline.proofs.rules.is_broken.Tie as tie
 

@@ -1,6 +1,5 @@
 -- `outline::rules::taxa_of` meets its contract: a sum over the records.
 use Prim.Native.Nat.{_+_, _-_}
-use mathlib.Core.Path.{_∙_}
 use native.Mathlib.Omega.{arith}
 use borrow.Author.Needs.{needs}
 use Rattle.outline.specs.Lists.{one}

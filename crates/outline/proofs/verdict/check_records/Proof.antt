@@ -1,68 +1,65 @@
--- `outline::verdict::check_records` meets its contract: the tests on the way to a `return` say which row holds.
+-- `outline::verdict::check_records` meets its contract: the rows that passed leave the answer to the next one.
+use Prim.Native.Nat.{ℕ}
+use mathlib.Core.Path.{_≡_}
+use mathlib.Core.List.{List}
+use lib.Dec.{ltb}
 use borrow.Author.Needs.{needs}
 use borrow.Author.Tests.{lt-ltb, le-ltb, eq-eqb, ne-eqb}
-use Rattle.outline.specs.Rules.{breaks}
-use Rattle.outline.specs.Verdict.{recordRows}
+use Rattle.outline.specs.Inner.{breaks}
+use Rattle.outline.specs.Rules.{badLink, taxa, isDuplicate}
+use Rattle.outline.specs.Verdict.{Told, _▸_, row, rowAt, mostTaxa, recordRows}
 use Rattle.outline.proofs.verdict.check_records.Statement.{statement}
 use Rattle.outline.proofs.verdict.check_records.Tie as tie
+
+-- the rows that are left after row 7, 6 and 5
+abbrev after7 : List ℕ → Told
+after7 o = rowAt 8 (isDuplicate o) o
+
+abbrev after6 : List ℕ → Told
+after6 o = row 7 (ltb mostTaxa (taxa o)) ▸ after7 o
+
+abbrev after5 : List ℕ → Told
+after5 o = rowAt 6 (badLink o) o ▸ after6 o
+
+-- the outline, at each place
+abbrev at5 : tie.After-broken-at2 → List ℕ
+at5 c = c .before .before .before .before .args .outline .now
+
+abbrev at6 : tie.After-taxa-of → List ℕ
+at6 c = at5 (c .before .before)
+
+abbrev at7 : tie.After-broken-at3 → List ℕ
+at7 c = at6 (c .before .before)
+
+passed5 : (c : tie.After-broken-at2) → after5 (at5 c) ≡ recordRows (at5 c)
+unfolding recordRows breaks
+passed5 c = simp (← c .before .before .broken-at .ensures, eq-eqb _ _ (c .before .if1 .left))
+
+passed6 : (c : tie.After-taxa-of) → after6 (at6 c) ≡ recordRows (at6 c)
+unfolding breaks
+passed6 c = simp (← c .before .before .broken-at2 .ensures, eq-eqb _ _ (c .before .if2 .left)) at (passed5 (c .before .before))
+
+passed7 : (c : tie.After-broken-at3) → after7 (at7 c) ≡ recordRows (at7 c)
+passed7 c = simp (← c .before .before .taxa-of .ensures, le-ltb _ _ (c .before .if3 .left)) at (passed6 (c .before .before))
 
 returns : tie.Need-returns
 unfolding recordRows breaks
 returns c = simp (← c .before .broken-at .ensures, ne-eqb _ _ (c .if1 .taken))
 
 returns-2 : tie.Need-returns-2
-unfolding recordRows breaks
-returns-2 c =
-    let field = c .before .before in
-    simp (← field .before .broken-at .ensures, eq-eqb _ _ (field .if1 .left), ← c .before .broken-at2 .ensures, ne-eqb _ _ (c .if2 .taken))
+unfolding breaks
+returns-2 c = simp (← c .before .broken-at2 .ensures, ne-eqb _ _ (c .if2 .taken)) at (passed5 (c .before))
 
 returns-3 : tie.Need-returns-3
-unfolding recordRows breaks
-returns-3 c =
-    let link = c .before .before in
-    let field = link .before .before in
-    simp (
-      ← field .before .broken-at .ensures,
-      eq-eqb _ _ (field .if1 .left),
-      ← link .before .broken-at2 .ensures,
-      eq-eqb _ _ (link .if2 .left),
-      ← c .before .taxa-of .ensures,
-      lt-ltb _ _ (c .if3 .taken),
-    )
+returns-3 c = simp (← c .before .taxa-of .ensures, lt-ltb _ _ (c .if3 .taken)) at (passed6 (c .before))
 
 returns-4 : tie.Need-returns-4
-unfolding recordRows breaks
-returns-4 c =
-    let taxa = c .before .before in
-    let link = taxa .before .before in
-    let field = link .before .before in
-    simp (
-      ← field .before .broken-at .ensures,
-      eq-eqb _ _ (field .if1 .left),
-      ← link .before .broken-at2 .ensures,
-      eq-eqb _ _ (link .if2 .left),
-      ← taxa .before .taxa-of .ensures,
-      le-ltb _ _ (taxa .if3 .left),
-      ← c .before .broken-at3 .ensures,
-      ne-eqb _ _ (c .if4 .taken),
-    )
+unfolding breaks
+returns-4 c = simp (← c .before .broken-at3 .ensures, ne-eqb _ _ (c .if4 .taken)) at (passed7 (c .before))
 
 returns-5 : tie.Need-returns-5
-unfolding recordRows breaks
-returns-5 c =
-    let taxa = c .before .before in
-    let link = taxa .before .before in
-    let field = link .before .before in
-    simp (
-      ← field .before .broken-at .ensures,
-      eq-eqb _ _ (field .if1 .left),
-      ← link .before .broken-at2 .ensures,
-      eq-eqb _ _ (link .if2 .left),
-      ← taxa .before .taxa-of .ensures,
-      le-ltb _ _ (taxa .if3 .left),
-      ← c .before .broken-at3 .ensures,
-      eq-eqb _ _ (c .if4 .left),
-    )
+unfolding breaks
+returns-5 c = simp (← c .before .broken-at3 .ensures, eq-eqb _ _ (c .if4 .left)) at (passed7 (c .before))
 
 pub check-records-spec : {M : Type 1} → statement M
 check-records-spec =

@@ -6,8 +6,8 @@ use mathlib.Core.List.{List}
 use native.Mathlib.Omega.{arith}
 use Rattle.outline.specs.Lists.{pick, one}
 use Rattle.outline.specs.Outline.{branch, price}
-use Rattle.diversity.proofs.Sums.{positive, positive-true}
-use Rattle.diversity.proofs.Forest.{Forest, empty, node, sumIn}
+use Rattle.laws.proofs.Sums.{positive, positive-true}
+use Rattle.laws.proofs.Forest.{Forest, empty, node, sumIn}
 
 -- how many records of the forest are chosen
 abbrev pub chosenIn : (ℕ → Bool) → Forest → ℕ

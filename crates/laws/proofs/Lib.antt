@@ -2,12 +2,15 @@
 pub mod Best
 pub mod ByTree
 pub mod Candidate
+pub mod Few
 pub mod Forest
+pub mod Free
 pub mod Links
 pub mod Marks
 pub mod Measures
 pub mod Numbers
 pub mod Optimum
 pub mod Order
-pub mod Starred
+pub mod SetOrder
+pub mod Spare
 pub mod Sums

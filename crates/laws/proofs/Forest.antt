@@ -8,10 +8,10 @@ use lib.Dec.{eqb}
 use borrow.Author.Tests.{eqb-true, eqb-false}
 use Rattle.outline.specs.Lists.{pick, one, total}
 use Rattle.outline.specs.Outline.{size, next, first, records, isTaxon}
 use Rattle.diversity.specs.Diversity.{chain}
-use Rattle.diversity.proofs.Sums.{occurs, occurs-most, total-append}
+use Rattle.laws.proofs.Sums.{occurs, occurs-most, total-append}
 use Rattle.outline.proofs.Kept.{Linked}
-use Rattle.diversity.proofs.Links.{Holder, by-next, by-first, holder, total-by-links}
+use Rattle.laws.proofs.Links.{Holder, by-next, by-first, holder, total-by-links}
 
 -- a record, its members, the rest of its chain
 pub data Forest : Type 0 where

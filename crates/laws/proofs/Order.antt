@@ -1,14 +1,14 @@
 -- The order of values: total, transitive, antisymmetric, kept by sums; and what betterOf, joinOf and chargeOf do with it.
-use Prim.Native.Nat.{ℕ, _≤_, _<_}
+use Prim.Native.Nat.{ℕ, _<_}
 use native.Mathlib.Omega.{arith}
 use native.Mathlib.Nat.{eq-or-lt-of-le}
 use mathlib.Core.Path.{_≡_, refl, sym, ap, subst, _∙_}
 use mathlib.Core.Logic.{_⊎_, inl, inr, _≢_}
 use mathlib.Core.Bool.{Bool, true, false, _||_, _&&_}
 use lib.Dec.{eqb, ltb}
-use borrow.Author.Tests.{ltb-true, ltb-false, eqb-true, eqb-false, le-ltb, eq-eqb, le-leb, lt-leb}
+use borrow.Author.Tests.{ltb-true, ltb-false, eqb-true, eqb-false}
 use Rattle.outline.specs.Lists.{pick}
-use Rattle.diversity.proofs.Candidate.{Value, plus, charge, beats, Cand, none, some, betterOf, joinOf, chargeOf, oneAt}
+use Rattle.laws.proofs.Candidate.{Value, plus, charge, beats, Cand, none, some, betterOf}
 
 -- v is better than w
 pub data Beats (v w : Value) : Type 0 where
@@ -107,6 +107,9 @@ beats-decides v w = go _ _ _ _ _ refl refl refl refl refl
         let ne : v .diversity ≢ w .diversity = eqb-false _ _ q in
         inr (more (omega (arith, ltb-false)))
 
+pub beats-is : {v w : Value} → beats v w ≡ true → Beats v w
+beats-is {v} {w} e = subst (Decided v w) e (beats-decides v w)
+
 pub beats-true : {v w : Value} → Beats v w → beats v w ≡ true
 beats-true {v} {w} p = go (beats v w) (beats-decides v w)
   where
@@ -162,17 +165,3 @@ better-same (some v) = go (beats v v)
     go : (t : Bool) → pick t (some v) (some v) ≡ some v
     go true = refl
     go false = refl
-
--- the row of one value
-pub one-below : (v : Value) (b : ℕ) → b < v .cost → oneAt v b ≡ none
-unfolding oneAt
-one-below v b h = rw (lt-leb (v .cost) b h)
-
-pub one-from : (v : Value) (b : ℕ) → v .cost ≤ b → oneAt v b ≡ some v
-unfolding oneAt
-one-from v b h = rw (le-leb (v .cost) b h)
-
-pub beats-last : (v w : Value) → v .diversity ≡ w .diversity → v .cost ≡ w .cost → beats v w ≡ ltb (w .code) (v .code)
-unfolding beats
-beats-last v w d c =
-    rw (le-ltb (w .diversity) (v .diversity) (omega arith), eq-eqb (v .diversity) (w .diversity) d, le-ltb (v .cost) (w .cost) (omega arith), eq-eqb (v .cost) (w .cost) c)

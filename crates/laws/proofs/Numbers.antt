@@ -8,15 +8,15 @@ use mathlib.Core.Path.{_≡_, refl, sym, ap, ap₂, _∙_}
 use mathlib.Core.Bool.{Bool, true, false}
 use mathlib.Core.List.{List, [], _∷_, map}
 use lib.Dec.{eqb, ltb}
-use lib.ListN.{length, getD, length-map}
+use lib.ListN.{getD}
 use lib.Pow.{high, pow-pos, pow-mono}
 use borrow.Author.Tests.{lt-ltb, le-ltb, ltb-true, ltb-false}
 use Rattle.outline.specs.Lists.{pick, one, from, total}
 use Rattle.outline.specs.Outline.{size, records, isTaxon}
 use Rattle.diversity.specs.Diversity.{chosen, diversity, cost}
 use Rattle.diversity.specs.Search.{leads}
-use Rattle.diversity.proofs.Candidate.{Value}
-use Rattle.diversity.proofs.Marks.{Marked, done, leave, choose, from-length}
+use Rattle.laws.proofs.Candidate.{Value}
+use Rattle.laws.proofs.Marks.{Marked, done, leave, choose}
 
 -- how many of the records are taxa
 unfoldable pub taxaIn : List ℕ → List ℕ → ℕ
@@ -194,17 +194,7 @@ decode-code {o} {s} m = decode-from o (code o s) 0 (size o) (omega arith) ∙ un
 pub code-below : {o s : List ℕ} → Marked o (records o) s → code o s < 2 ^ taxaIn o (records o)
 code-below m = rw (code-horner m) (horner-below m)
 
--- by places
-pub decode-length : (o : List ℕ) (c : ℕ) → length (decode o c) ≡ size o
-unfolding decode records
-decode-length o c = simp (length-map, from-length)
-
-pub map-at : (f : ℕ → ℕ) (k n i : ℕ) → i < n → getD (map f (from k n)) i 0 ≡ f (k + i)
-unfolding from
-map-at f k zero i h = let no : ⊥ = omega arith in absurd no
-map-at f k (suc n) zero h = ap f (omega arith)
-map-at f k (suc n) (suc i) h = map-at f (k + 1) n i (omega arith) ∙ ap f (omega arith)
-
-pub decode-at : (o : List ℕ) (c i : ℕ) → i < size o → getD (decode o c) i 0 ≡ pick (isTaxon o (i + 1)) (c / weight o (i + 1) % 2) 0
-unfolding decode records
-decode-at o c i h = rw (map-at _ 1 (size o) i, add-comm 1 i)
+-- sets of one worth are one set
+pub worth-inj : {o s t : List ℕ} (way : ℕ) → Marked o (records o) s → Marked o (records o) t → worth o way s ≡ worth o way t → s ≡ t
+unfolding worth
+worth-inj way m n e = code-inj m n (ap (λ (v : Value). v .code) e)

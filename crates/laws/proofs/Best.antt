@@ -7,8 +7,8 @@ use mathlib.Core.Bool.{Bool, true, false}
 use lib.Dec.{leb}
 use borrow.Author.Tests.{leb-true, leb-false}
 use Rattle.outline.specs.Lists.{pick}
-use Rattle.diversity.proofs.Candidate.{Value, nothingWorth, beats, Cand, none, some, betterOf, oneAt}
-use Rattle.diversity.proofs.Order.{AtLeast, atleast-trans, atleast-antisym, Decided, beats-decides}
+use Rattle.laws.proofs.Candidate.{Value, nothingWorth, beats, Cand, none, some, betterOf, oneAt}
+use Rattle.laws.proofs.Order.{AtLeast, atleast-trans, atleast-antisym, Decided, beats-decides}
 
 -- a candidate that is there is a value of P that fits b
 pub data From (P : Value → Type 0) (b : ℕ) : Cand → Type 0 where

@@ -68,6 +68,12 @@ unfolding total from
 total-ext f g a zero h = refl
 total-ext f g a (suc n) h = ap₂ _+_ (h a (omega arith) (omega arith)) (total-ext f g (a + 1) n (λ r l u. h r (omega arith) (omega arith)))
 
+-- sums of terms none of which is greater
+pub total-below : (f g : ℕ → ℕ) (xs : List ℕ) → ((x : ℕ) → f x ≤ g x) → total f xs ≤ total g xs
+unfolding total
+total-below f g [] h = omega arith
+total-below f g (x ∷ xs) h = omega (arith, h x, total-below f g xs h)
+
 -- where a sum is not 0, a term is not 0
 abbrev pub Term : (ℕ → ℕ) → ℕ → ℕ → Type 0
 Term f a n = (r : ℕ) × (a ≤ r) × (r < a + n) × (0 < f r)

@@ -11,7 +11,7 @@ use Rattle.outline.specs.Lists.{one, from, total}
 use Rattle.outline.specs.Outline.{size, next, first, records}
 use Rattle.outline.specs.Rules.{naming, named}
 use Rattle.outline.proofs.Kept.{Later, Linked}
-use Rattle.diversity.proofs.Sums.{Term, total-some, total-add, total-scale, total-swap, total-ext, total-single}
+use Rattle.laws.proofs.Sums.{Term, total-some, total-add, total-scale, total-swap, total-ext, total-single}
 
 -- the record whose link names q
 pub data Holder (o : List ℕ) (q : ℕ) : Type 0 where

@@ -9,16 +9,14 @@ use lib.Dec.{eqb}
 use borrow.Author.Tests.{eq-eqb}
 use Rattle.outline.specs.Lists.{pick, one, anywhere, total}
 use Rattle.outline.specs.Outline.{size, first, branch, price, records, isTaxon}
 use Rattle.diversity.specs.Diversity.{clade}
 use Rattle.diversity.specs.Diversity.{chosen, within, elsewhere, rooted, unrooted, cost}
-use Rattle.diversity.proofs.Sums.{positive, anywhere-count, occurs, occurs-most, eqb-comm, total-add, total-zero, total-ext, total-at}
+use Rattle.laws.proofs.Sums.{positive, anywhere-count, occurs, occurs-most, eqb-comm, total-add, total-zero, total-ext, total-at}
 use Rattle.outline.proofs.Kept.{Linked}
-use Rattle.diversity.proofs.Forest.{Forest, empty, node, sumIn, countIn, total-listed, chain-listed, tree, tree-step, members-cases, sum-all, inside, distinct}
-use Rattle.diversity.proofs.Measures.{chosenIn, isGroup, groupsIn, costIn, rootedIn, unrootedIn, crossing, crossing-unrooted}
-
--- a set of taxa: no group is chosen
-pub record Marks (o s : List ℕ) : Type 0 where
-  pub taxa-only : (r : ℕ) → 1 ≤ r → r ≤ size o → isTaxon o r ≡ false → chosen s r ≡ false
+use Rattle.laws.proofs.Forest.{Forest, empty, node, sumIn, countIn, total-listed, chain-listed, tree, tree-step, members-cases, sum-all, inside, distinct}
+use Rattle.diversity.specs.Behind.{IsSet}
+use Rattle.laws.proofs.Marks.{group-unchosen}
+use Rattle.laws.proofs.Measures.{chosenIn, isGroup, groupsIn, costIn, rootedIn, unrootedIn, crossing, crossing-unrooted}
 
 total-clade : (w : ℕ → ℕ) (o : List ℕ) (r : ℕ) → total w (clade o r) ≡ w r + sumIn (λ q f. w q) (tree o (first o r))
 unfolding clade total tree
@@ -106,23 +104,23 @@ module _ (o : List ℕ) (linked : Linked o) (s : List ℕ) where
           )
 
   -- no group is chosen
-  pub groups-none : Marks o s → groupsIn (chosen s) (tree o 1) ≡ 0
+  pub groups-none : IsSet o s → groupsIn (chosen s) (tree o 1) ≡ 0
   unfolding records
-  groups-none marks =
+  groups-none x =
       sym (sum-all o linked (λ r f. one (chosen s r && isGroup f))) ∙ total-ext _ (λ r. 0) 1 (size o) (λ r l u. each r l (omega arith) (isTaxon o r) refl)
       ∙ total-zero (records o)
     where
       each : (r : ℕ) → 1 ≤ r → r ≤ size o → (b : Bool) → isTaxon o r ≡ b → one (chosen s r && isGroup (tree o (first o r))) ≡ 0
       each r l u true e = rw (members-cases o linked r l u isGroup false true refl (λ q g m. refl), e, and-false)
-      each r l u false e = rw (marks .taxa-only r l u e)
+      each r l u false e = rw (group-unchosen o s x r l u e)
 
-  pub unrooted-tree : Marks o s → unrooted o s ≡ unrootedIn o (chosen s) (tree o 1)
+  pub unrooted-tree : IsSet o s → unrooted o s ≡ unrootedIn o (chosen s) (tree o 1)
   unfolding unrooted records
-  unrooted-tree marks =
+  unrooted-tree x =
       total-ext _ (λ r. crossing o (chosen s) all r (tree o (first o r))) 1 (size o)
       (λ r l u. ap₂ (λ b c. pick (b && c) (branch o r) 0) (within-count o s r) (elsewhere-count r l (omega arith)))
       ∙ sum-all o linked (crossing o (chosen s) all)
-      ∙ crossing-unrooted o (chosen s) all (tree o 1) (groups-none marks) refl
+      ∙ crossing-unrooted o (chosen s) all (tree o 1) (groups-none x) refl
     where
       all : ℕ
       all = chosenIn (chosen s) (tree o 1)

@@ -1,0 +1,35 @@
+// Cases of finding a plate's record.
+use super::page::comb;
+use super::page::one_record;
+use super::page::star;
+use super::page::tree_a;
+use super::page::tree_a_with;
+use super::show::find;
+
+// In tree A first. Plate 0 is no taxon's, though it stands in the groups.
+pub fn in_accepted() {
+    let page = tree_a();
+    find(b"", &page, 80, 11);
+    find(b"", &page, 80, 12);
+    find(b"", &page, 80, 13);
+    find(b"", &page, 80, 99);
+    find(b"", &page, 80, 0);
+    find(b" in one taxon", &one_record([0, 0, 5, 1, 7]), 16, 7);
+    let highest = one_record([0, 0, 1000000, 65535, 4294967295]);
+    find(b" in one taxon", &highest, 16, 4294967295);
+    find(b" in one taxon", &highest, 16, 65535);
+    find(b" among 64 taxa", &star(65), 1040, 65);
+}
+
+// A refused outline gives nothing, though the plate is there.
+pub fn in_refused() {
+    find(b" in 81 bytes", &tree_a(), 81, 11);
+    find(b" in 128 records", &comb(128), 2048, 2);
+    let field = tree_a_with(5, [0, 0, 5, 65536, 13]);
+    find(b" beside a bad field", &field, 80, 11);
+    let link = tree_a_with(5, [6, 0, 5, 2, 13]);
+    find(b" beside a bad link", &link, 80, 11);
+    find(b" among 65 taxa", &star(66), 1056, 2);
+    let alike = tree_a_with(5, [0, 0, 5, 2, 12]);
+    find(b" beside two plates alike", &alike, 80, 11);
+}
