@@ -1,9 +1,9 @@
 -- The best candidate among the values with a property P that fit page count b.
 use Prim.Native.Nat.{ℕ, _≤_}
-use native.Mathlib.Omega.{arith}
 use mathlib.Core.Path.{_≡_, refl, ap}
 use mathlib.Core.Logic.{_⊎_, inl, inr, ⊎-elim}
 use mathlib.Core.Bool.{Bool, true, false}
+use native.Mathlib.Omega.{arith}
 use lib.Dec.{leb}
 use borrow.Author.Tests.{leb-true, leb-false}
 use Rattle.outline.specs.Lists.{pick}
@@ -19,6 +19,7 @@ pub data From (P : Value → Type 0) (b : ℕ) : Cand → Type 0 where
 pub data Covers : Cand → Value → Type 0 where
   by : {v w : Value} → AtLeast v w → Covers (some v) w
 
+-- the best of the values of P that fit b, none where none fits
 pub record Best (P : Value → Type 0) (b : ℕ) (c : Cand) : Type 0 where
   pub is : From P b c
   pub covers : (w : Value) → P w → w .cost ≤ b → Covers c w
@@ -32,6 +33,7 @@ covers-some (by p) = p
 pub from-some : {P : Value → Type 0} {b : ℕ} {v : Value} → From P b (some v) → P v × (v .cost ≤ b)
 from-some (this p l) = (p, l)
 
+-- there is one best
 pub best-unique : {P : Value → Type 0} {b : ℕ} {c d : Cand} → Best P b c → Best P b d → c ≡ d
 best-unique {P} {b} p q = go (p .is) (p .covers) (q .is) (q .covers)
   where
@@ -42,7 +44,7 @@ best-unique {P} {b} p q = go (p .is) (p .covers) (q .is) (q .covers)
     go (this {v} p k) f nothing g = absurd (covers-none (g v p k))
     go (this {v} p k) f (this {v = w} q l) g = ap some (atleast-antisym (covers-some (f w q l)) (covers-some (g v p k)))
 
--- the three operations on candidates
+-- the better of two
 pub from-better : {P : Value → Type 0} {b : ℕ} {c d : Cand} → From P b c → From P b d → From P b (betterOf c d)
 unfolding betterOf
 from-better nothing q = q
@@ -79,7 +81,7 @@ from-same f (this {v} p l) = this (f v p) l
 pub best-same : {P Q : Value → Type 0} {b : ℕ} {c : Cand} → ((v : Value) → P v → Q v) → ((v : Value) → Q v → P v) → Best P b c → Best Q b c
 best-same f g p = record { is = from-same f (p .is); covers = λ w q. p .covers w (g w q) }
 
--- where a chain begins: no value, one value, and one of two properties
+-- no value, the empty set, one value, and one of two properties
 pub best-none : {P : Value → Type 0} {b : ℕ} → ((v : Value) → P v → ⊥) → Best P b none
 best-none f = record { is = nothing; covers = λ w p l. absurd (f w p) }
 

@@ -9,12 +9,11 @@ use lib.Dec.{eqb}
 use borrow.Author.Tests.{eq-eqb}
 use Rattle.outline.specs.Lists.{pick, one, anywhere, total}
 use Rattle.outline.specs.Outline.{size, first, branch, price, records, isTaxon}
-use Rattle.diversity.specs.Diversity.{clade}
-use Rattle.diversity.specs.Diversity.{chosen, within, elsewhere, rooted, unrooted, cost}
-use Rattle.laws.proofs.Sums.{positive, anywhere-count, occurs, occurs-most, eqb-comm, total-add, total-zero, total-ext, total-at}
 use Rattle.outline.proofs.Kept.{Linked}
-use Rattle.laws.proofs.Forest.{Forest, empty, node, sumIn, countIn, total-listed, chain-listed, tree, tree-step, members-cases, sum-all, inside, distinct}
+use Rattle.diversity.specs.Diversity.{clade, chosen, within, elsewhere, rooted, unrooted, cost}
 use Rattle.diversity.specs.Behind.{IsSet}
+use Rattle.laws.proofs.Sums.{positive, anywhere-count, occurs, occurs-most, eqb-comm, total-add, total-zero, total-ext, total-at}
+use Rattle.laws.proofs.Forest.{Forest, empty, node, sumIn, countIn, total-listed, chain-listed, tree, tree-step, members-cases, sum-all, inside, distinct}
 use Rattle.laws.proofs.Marks.{group-unchosen}
 use Rattle.laws.proofs.Measures.{chosenIn, isGroup, groupsIn, costIn, rootedIn, unrootedIn, crossing, crossing-unrooted}
 

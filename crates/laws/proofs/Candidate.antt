@@ -4,7 +4,7 @@ use mathlib.Core.Bool.{Bool, _||_, _&&_}
 use lib.Dec.{eqb, ltb, leb}
 use Rattle.outline.specs.Lists.{pick}
 
--- what a set is worth; its code is the set read as a binary number, the first taxon the most significant
+-- what a set is worth; its code is the set read as a binary number, the first taxon the most significant digit
 pub record Value : Type 0 where
   pub diversity : ℕ
   pub cost : ℕ
@@ -18,6 +18,7 @@ plus v w = record { diversity = v .diversity + w .diversity; cost = v .cost + w 
 abbrev pub nothingWorth : Value
 nothingWorth = record { diversity = 0; cost = 0; code = 0 }
 
+-- with a branch of length n above
 abbrev pub charge : Value → ℕ → Value
 charge v n = record { diversity = v .diversity + n; cost = v .cost; code = v .code }
 
@@ -28,6 +29,7 @@ beats v w =
     || (eqb (v .diversity) (w .diversity)
     && (ltb (v .cost) (w .cost) || (eqb (v .cost) (w .cost) && ltb (w .code) (v .code))))
 
+-- a set's worth, or no set
 pub data Cand : Type 0 where
   none : Cand
   some : Value → Cand

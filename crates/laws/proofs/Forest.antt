@@ -8,10 +8,10 @@ use lib.Dec.{eqb}
 use borrow.Author.Tests.{eqb-true, eqb-false}
 use Rattle.outline.specs.Lists.{pick, one, total}
 use Rattle.outline.specs.Outline.{size, next, first, records, isTaxon}
+use Rattle.outline.proofs.Kept.{Linked}
 use Rattle.diversity.specs.Diversity.{chain}
 use Rattle.laws.proofs.Sums.{occurs, occurs-most, total-append}
-use Rattle.outline.proofs.Kept.{Linked}
-use Rattle.laws.proofs.Links.{Holder, by-next, by-first, holder, total-by-links}
+use Rattle.laws.proofs.Links.{Namer, by-next, by-first, namer, total-by-links}
 
 -- a record, its members, the rest of its chain
 pub data Forest : Type 0 where
@@ -104,9 +104,9 @@ module _ (o : List ℕ) (linked : Linked o) where
   reach P root down zero q h l u = absurd (omega arith)
   reach P root down (suc k) zero h l u = absurd (omega arith)
   reach P root down (suc k) (suc zero) h l u = root
-  reach P root down (suc k) (suc (suc q)) h l u = go (reach P root down k) (holder o linked (suc (suc q)) (omega arith) u)
+  reach P root down (suc k) (suc (suc q)) h l u = go (reach P root down k) (namer o linked (suc (suc q)) (omega arith) u)
     where
-      go : ((r : ℕ) → r ≤ k → 1 ≤ r → r ≤ size o → P r) → Holder o (suc (suc q)) → P (suc (suc q))
+      go : ((r : ℕ) → r ≤ k → 1 ≤ r → r ≤ size o → P r) → Namer o (suc (suc q)) → P (suc (suc q))
       go ih (by-first r lr ur e) = subst P e (down r lr (omega arith) (ih r (omega arith) lr (omega arith)) .0)
       go ih (by-next r lr ur e) = subst P e (down r lr (omega arith) (ih r (omega arith) lr (omega arith)) .1)
 

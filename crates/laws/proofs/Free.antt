@@ -1,10 +1,10 @@
 -- A taxon of price 0 is always chosen: a set that lacks it is behind the same set with it.
 use Prim.Native.Nat.{ℕ, zero, _-_, _≤_}
-use native.Mathlib.Omega.{arith}
 use mathlib.Core.Path.{_≡_, refl, sym, ap, _∙_}
 use mathlib.Core.Logic.{_⊎_, inr}
 use mathlib.Core.Bool.{Bool, true, false, _||_, _&&_, false≢true}
 use mathlib.Core.List.{List, [], _∷_}
+use native.Mathlib.Omega.{arith}
 use lib.Dec.{eqb}
 use lib.ListN.{getD, set, length-set}
 use lib.Seq.{getD-set-same, getD-set-other}

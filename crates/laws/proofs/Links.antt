@@ -14,18 +14,18 @@ use Rattle.outline.proofs.Kept.{Later, Linked}
 use Rattle.laws.proofs.Sums.{Term, total-some, total-add, total-scale, total-swap, total-ext, total-single}
 
 -- the record whose link names q
-pub data Holder (o : List ℕ) (q : ℕ) : Type 0 where
-  by-next : (r : ℕ) → 1 ≤ r → r < q → next o r ≡ q → Holder o q
-  by-first : (r : ℕ) → 1 ≤ r → r < q → first o r ≡ q → Holder o q
+pub data Namer (o : List ℕ) (q : ℕ) : Type 0 where
+  by-next : (r : ℕ) → 1 ≤ r → r < q → next o r ≡ q → Namer o q
+  by-first : (r : ℕ) → 1 ≤ r → r < q → first o r ≡ q → Namer o q
 
-pub holder : (o : List ℕ) → Linked o → (q : ℕ) → 2 ≤ q → q ≤ size o → Holder o q
+pub namer : (o : List ℕ) → Linked o → (q : ℕ) → 2 ≤ q → q ≤ size o → Namer o q
 unfolding named naming records
-holder o linked q l u = found (total-some (naming o q) 1 (size o) (omega (arith, linked .named-once q l u)))
+namer o linked q l u = found (total-some (naming o q) 1 (size o) (omega (arith, linked .named-once q l u)))
   where
-    found : Term (naming o q) 1 (size o) → Holder o q
+    found : Term (naming o q) 1 (size o) → Namer o q
     found (r, lr, ur, h) = go (eqb (next o r) q) (eqb (first o r) q) refl refl
       where
-        go : (b c : Bool) → eqb (next o r) q ≡ b → eqb (first o r) q ≡ c → Holder o q
+        go : (b c : Bool) → eqb (next o r) q ≡ b → eqb (first o r) q ≡ c → Namer o q
         go true c d e =
             let n = eqb-true (next o r) q d in
             let k = linked .next-later r lr (omega arith) .later (omega arith) in

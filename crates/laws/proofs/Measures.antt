@@ -13,11 +13,12 @@ use Rattle.laws.proofs.Forest.{Forest, empty, node, sumIn}
 abbrev pub chosenIn : (ℕ → Bool) → Forest → ℕ
 chosenIn p F = sumIn (λ r f. one (p r)) F
 
--- how many of those have members
+-- a record with these members is a group
 abbrev pub isGroup : Forest → Bool
 isGroup empty = false
 isGroup (node r f n) = true
 
+-- how many groups are chosen
 abbrev pub groupsIn : (ℕ → Bool) → Forest → ℕ
 groupsIn p F = sumIn (λ r f. one (p r && isGroup f)) F
 

@@ -1,12 +1,12 @@
 -- A set of taxa as a binary number, the first taxon the most significant digit: numbers order the sets as the tie rule does
 -- and tell them apart, for any number of taxa.
 use Prim.Native.Nat.{ℕ, zero, suc, _+_, _*_, _-_, _/_, _%_, _^_, _≤_, _<_}
-use native.Mathlib.Omega.{arith}
-use native.Mathlib.Nat.{add-comm, two-pow-succ}
-use native.Mathlib.Numerals.{add-one}
 use mathlib.Core.Path.{_≡_, refl, sym, ap, ap₂, _∙_}
 use mathlib.Core.Bool.{Bool, true, false}
 use mathlib.Core.List.{List, [], _∷_, map}
+use native.Mathlib.Omega.{arith}
+use native.Mathlib.Nat.{add-comm, two-pow-succ}
+use native.Mathlib.Numerals.{add-one}
 use lib.Dec.{eqb, ltb}
 use lib.ListN.{getD}
 use lib.Pow.{high, pow-pos, pow-mono}

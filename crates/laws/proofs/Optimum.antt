@@ -1,11 +1,11 @@
 -- The exhaustive search ends with exactly one set, in whatever order it goes through the sets: that set fits, and every other
 -- set that fits is behind it.
 use Prim.Native.Nat.{ℕ, zero, suc, _-_, _≤_}
-use native.Mathlib.Omega.{arith}
 use mathlib.Core.Path.{_≡_, refl, sym, ap, _∙_}
 use mathlib.Core.Logic.{_⊎_, inl, inr, ⊎-elim, _↔_}
 use mathlib.Core.Bool.{Bool, true, false}
 use mathlib.Core.List.{List, [], _∷_, map, foldl, List·Memᴰ, List·Memᴰ·head, List·Memᴰ·tail, List·Memᴰ·cases-cons, List·Memᴰ·not-nil}
+use native.Mathlib.Omega.{arith}
 use lib.Dec.{leb}
 use lib.ListN.{getD}
 use borrow.Author.Tests.{lt-ltb}
@@ -174,10 +174,9 @@ module _ (o : List ℕ) (way b : ℕ) where
   optimum-only : {v : Value} → Best (Worths o way) b (some v) → v ≡ worth o way (optimum o way b)
   optimum-only p = let e = best-unique p optimum-best in cc
 
-  -- the marks are read off the best value's number
-  pub optimum-decoded : {v : Value} → Best (Worths o way) b (some v) → decode o (v .code) ≡ optimum o way b
-  unfolding worth
-  optimum-decoded p = rw (optimum-only p) (decode-code optimum-marked)
+  -- its marks can be read off its number
+  pub optimum-decoded : decode o (code o (optimum o way b)) ≡ optimum o way b
+  optimum-decoded = decode-code optimum-marked
 
   -- it fits
   pub optimum-fits : Fits o b (optimum o way b)

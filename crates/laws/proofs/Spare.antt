@@ -1,10 +1,10 @@
 -- The spare, read leftwards from the curve's right end, is the page count minus the cost.
 use Prim.Native.Nat.{ℕ, zero, suc, _-_, _≤_, _<_}
-use native.Mathlib.Omega.{arith}
-use native.Mathlib.Nat.{eq-or-lt-of-le}
 use mathlib.Core.Path.{_≡_}
 use mathlib.Core.Logic.{_⊎_, inl, inr}
 use mathlib.Core.List.{List}
+use native.Mathlib.Omega.{arith}
+use native.Mathlib.Nat.{eq-or-lt-of-le}
 use borrow.Author.Tests.{eq-eqb, ne-eqb}
 use Rattle.diversity.specs.Search.{optimum, bestDiversity, leastCost, level, spare}
 use Rattle.laws.proofs.Optimum.{optimum-set, optimum-fits, greatest-diversity, least-cost}

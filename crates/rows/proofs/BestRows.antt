@@ -1,8 +1,8 @@
 -- The best candidate of sums and of charges, and rows that hold the best candidate in each column.
 use Prim.Native.Nat.{ℕ, _+_, _-_, _≤_}
-use native.Mathlib.Omega.{arith}
 use mathlib.Core.Path.{_≡_, refl, ap}
 use mathlib.Core.Logic.{_⊎_}
+use native.Mathlib.Omega.{arith}
 use Rattle.laws.proofs.Candidate.{Value, plus, charge, Cand, joinOf, chargeOf}
 use Rattle.laws.proofs.Order.{atleast-both, atleast-charge}
 use Rattle.laws.proofs.Best.{From, nothing, this, Covers, by, Best, best-one, best-either}

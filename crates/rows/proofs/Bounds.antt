@@ -11,10 +11,10 @@ use Rattle.laws.proofs.Sums.{total-ext, total-most}
 use Rattle.laws.proofs.Forest.{Forest, empty, node, sumIn, tree, tree-step, sum-part}
 use Rattle.laws.proofs.Candidate.{Value, Cand}
 use Rattle.laws.proofs.Best.{From, nothing, this, from-better, from-same}
-use Rattle.rows.proofs.BestRows.{from-charge, from-join-row}
-use Rattle.rows.specs.Rows.{Row, betterRow, isLeaf, taxonRooted, cladeRow, pushed, rootedRow, crossRow}
-use Rattle.rows.proofs.Steps.{leaf-taxon}
 use Rattle.laws.proofs.Numbers.{taxaIn, weight, weights-below}
+use Rattle.rows.specs.Rows.{Row, betterRow, isLeaf, taxonRooted, cladeRow, pushed, rootedRow, crossRow}
+use Rattle.rows.proofs.BestRows.{from-charge, from-join-row}
+use Rattle.rows.proofs.Steps.{leaf-taxon}
 
 -- at most d of diversity, and a code of at most m
 pub record Small (d m : ℕ) (v : Value) : Type 0 where

@@ -4,4 +4,4 @@ pub mod Bounds
 pub mod Push
 pub mod Sets
 pub mod Steps
-pub mod Whole
+pub mod TopRow

@@ -10,10 +10,10 @@ use Rattle.outline.specs.Outline.{branch, price}
 use Rattle.outline.specs.Lists.{one}
 use Rattle.laws.proofs.Forest.{Forest, empty, node, countIn}
 use Rattle.laws.proofs.Candidate.{Value, plus, charge, nothingWorth, Cand, betterOf}
-use Rattle.laws.proofs.Order.{value-path, plus-assoc, plus-charge}
+use Rattle.laws.proofs.Order.{value-path, plus-comm, plus-assoc, plus-charge}
 use Rattle.laws.proofs.Best.{Best, best-same, best-unique, best-none, best-nothing, best-one, best-either}
-use Rattle.rows.proofs.BestRows.{BestRow, Plus, best-charge, row-either, best-join-row}
 use Rattle.rows.specs.Rows.{Row, isLeaf, taxonRooted, taxonUnrooted, cladeRow, pushed, rootedRow, aloneRow, crossRow, singleRow, acrossRow}
+use Rattle.rows.proofs.BestRows.{BestRow, Plus, best-charge, row-either, best-join-row}
 use Rattle.rows.proofs.Sets.{Sets, Splits, Parts, sets-empty, rootedWorth, unrootedWorth, rooted-splits, unrooted-splits, sets-parted, sets-joined, rooted-taxon, unrooted-taxon, rooted-group, unrooted-group}
 
 -- each record once
@@ -114,6 +114,18 @@ module _ (o : List ℕ) (code : ℕ → ℕ) where
       best-unique (rooted-best (node r f n) once b)
       (chain-best r f n once b (rooted-splits o code)
       (alone-best r f (not-below r f n once) b (rooted-best f (λ t. omega (arith, once t)) b)) (rooted-best n (λ t. omega (arith, once t)) b))
+
+  -- a clade with the rest of its chain, either pushed over the other
+  pub cross-swapped : (r : ℕ) (f n : Forest) → Once (node r f n) → (b : ℕ)
+      → crossRow o code r (isLeaf f) f n b ≡ pushed o code n (aloneRow o code r (isLeaf f) f) b
+  cross-swapped r f n once b =
+      best-unique (cross-best r f n once b)
+      (best-same swap swap
+      (pushed-best n (λ t. omega (arith, once t)) b
+      (λ i l. alone-best r f (not-below r f n once) i (rooted-best f (λ t. omega (arith, once t)) i)) b (omega arith)))
+    where
+      swap : {P Q : Value → Type 0} (v : Value) → Plus P Q v → Plus Q P v
+      swap v (p, q, h, k, e) = (q, p, k, h, e ∙ plus-comm p q)
 
   abbrev pub Unrooted : Forest → Value → Type 0
   Unrooted F v = Sets (unrootedWorth o code) F v

@@ -14,8 +14,8 @@ use Rattle.laws.proofs.Forest.{Forest, empty, node, sumIn, countIn}
 use Rattle.laws.proofs.Measures.{chosenIn, isGroup, groupsIn, weightIn, costIn, rootedIn, across, unrootedIn, rooted-quiet, weight-quiet}
 use Rattle.laws.proofs.Candidate.{Value, plus, charge}
 use Rattle.laws.proofs.Order.{value-path}
-use Rattle.rows.proofs.BestRows.{Charged, Plus}
 use Rattle.rows.specs.Rows.{taxonRooted, taxonUnrooted}
+use Rattle.rows.proofs.BestRows.{Charged, Plus}
 
 -- two sets choose alike among the records of a forest
 abbrev pub Agree : (ℕ → Bool) → (ℕ → Bool) → Forest → Type 0

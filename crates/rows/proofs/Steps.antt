@@ -10,7 +10,7 @@ use Rattle.outline.proofs.Kept.{Linked}
 use Rattle.laws.proofs.Forest.{Forest, empty, node, tree, tree-zero, tree-step, members-cases, disjoint}
 use Rattle.laws.proofs.Candidate.{none, betterOf}
 use Rattle.rows.specs.Rows.{Row, betterRow, joinRow, isLeaf, cladeRow, pushed, rootedRow, aloneRow, crossRow, singleRow, acrossRow}
-use Rattle.rows.proofs.Push.{rooted-chain}
+use Rattle.rows.proofs.Push.{rooted-chain, cross-swapped}
 
 -- a column of a pushed row depends on the columns up to it
 module _ (o : List ℕ) (code : ℕ → ℕ) where
@@ -62,3 +62,8 @@ module _ (o : List ℕ) (linked : Linked o) (code : ℕ → ℕ) where
         (crossRow o code r (isTaxon o r) (tree o (first o r)) (tree o (next o r)) b)
     unfolding acrossRow
     across-step = ap (λ F. acrossRow o code F b) (tree-step o linked r l u) ∙ rw (leaf-taxon o linked r l u)
+
+    -- the crossing row, from either side
+    pub cross-step : crossRow o code r (isTaxon o r) (tree o (first o r)) (tree o (next o r)) b
+        ≡ pushed o code (tree o (next o r)) (aloneRow o code r (isTaxon o r) (tree o (first o r))) b
+    cross-step = rw (leaf-taxon o linked r l u) at (cross-swapped o code r (tree o (first o r)) (tree o (next o r)) (disjoint o linked r l u) b)

@@ -1,11 +1,14 @@
 -- The rows of the table, by recursion over a forest: a row is pushed through the forest, from its last clade to its first.
+-- `code r` is what taxon r adds to a set's number.
 use Prim.Native.Nat.{ℕ, _-_}
 use mathlib.Core.Bool.{Bool, not}
 use mathlib.Core.List.{List}
+use lib.Dec.{eqb}
 use Rattle.outline.specs.Lists.{pick}
 use Rattle.outline.specs.Outline.{branch, price}
-use Rattle.laws.proofs.Forest.{Forest, empty, node}
+use Rattle.laws.proofs.Forest.{Forest, empty, node, tree}
 use Rattle.laws.proofs.Measures.{isGroup}
+use Rattle.laws.proofs.Numbers.{weight}
 use Rattle.laws.proofs.Candidate.{Value, nothingWorth, Cand, none, some, betterOf, joinOf, chargeOf, oneAt}
 
 -- a candidate for each page count
@@ -64,3 +67,9 @@ module _ (o : List ℕ) (code : ℕ → ℕ) where
   acrossRow empty b = none
   acrossRow (node r f n) b =
       betterOf (betterOf (betterOf (singleRow r (isLeaf f) b) (acrossRow f b)) (acrossRow n b)) (crossRow r (isLeaf f) f n b)
+
+-- the table's last row: nothing, or something in the clade of record 1, by the way of counting
+unfoldable pub topRow : List ℕ → ℕ → Row
+topRow o way b =
+    let code = weight o in
+    betterOf (some nothingWorth) (pick (eqb way 0) (rootedRow o code (tree o 1) b) (acrossRow o code (tree o 1) b))

@@ -1,8 +1,8 @@
 -- `outline::rules::named_of` meets its contract: a sum over the records.
 use Prim.Native.Nat.{_+_, _-_, _≤_}
 use native.Mathlib.Omega.{arith}
-use borrow.Author.Needs.{needs}
 use lib.Dec.{eqb}
+use borrow.Author.Needs.{needs}
 use Rattle.outline.specs.Outline.{records, next, first}
 use Rattle.outline.specs.Rules.{naming, named}
 use Rattle.outline.proofs.Tests.{one-le}

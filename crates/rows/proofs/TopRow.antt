@@ -1,4 +1,4 @@
--- The row of record 1, with the empty set, holds in every column what the exhaustive search ends with.
+-- The top row holds in every column what the exhaustive search ends with, whichever way is counted.
 use Prim.Native.Nat.{ℕ, zero, suc, _+_, _-_, _≤_, _<_}
 use mathlib.Core.Path.{_≡_, refl, sym, ap, _∙_}
 use mathlib.Core.Bool.{Bool, true, false, _&&_, and-true, true≢false}
@@ -8,24 +8,24 @@ use native.Mathlib.Omega.{arith}
 use lib.Dec.{eqb}
 use Rattle.outline.specs.Lists.{pick, one, from}
 use Rattle.outline.specs.Outline.{size, first, price, records, isTaxon}
+use Rattle.outline.proofs.Kept.{Linked}
 use Rattle.diversity.specs.Diversity.{chosen, diversity, rooted, unrooted, cost}
 use Rattle.diversity.specs.Search.{optimum}
 use Rattle.laws.proofs.Sums.{one-false, occurs-range, total-term}
-use Rattle.outline.proofs.Kept.{Linked}
 use Rattle.laws.proofs.Forest.{Forest, tree, members-cases, sum-all, inside, distinct}
 use Rattle.laws.proofs.Measures.{chosenIn, isGroup, groupsIn, weight-quiet, rooted-quiet, unrooted-quiet}
 use Rattle.laws.proofs.ByTree.{groups-none, rooted-tree, unrooted-tree, cost-tree}
-use Rattle.laws.proofs.Candidate.{Value, nothingWorth, Cand, some, betterOf}
+use Rattle.laws.proofs.Candidate.{Value, nothingWorth, some}
 use Rattle.laws.proofs.Order.{value-path}
 use Rattle.laws.proofs.Best.{Best, best-same, best-nothing, best-either, best-unique}
 use Rattle.laws.proofs.Numbers.{weight, code, worth}
 use Rattle.laws.proofs.Marks.{Marked, done, leave, choose, marked-set, map-at}
 use Rattle.laws.proofs.Optimum.{Worths, optimum-best}
+use Rattle.rows.specs.Rows.{rootedRow, acrossRow, topRow}
 use Rattle.rows.proofs.Sets.{Agree, Sets, Splits, nobody, sum-zero, rootedWorth, unrootedWorth, rooted-splits, unrooted-splits}
-use Rattle.rows.specs.Rows.{rootedRow, acrossRow}
 use Rattle.rows.proofs.Push.{Once, rooted-best, across-best}
 
--- the marks of a test
+-- ---- a test of record numbers, as marks
 abbrev marks : (ℕ → Bool) → ℕ → ℕ → List ℕ
 marks p a n = map (λ r. one (p r)) (from a n)
 
@@ -45,21 +45,17 @@ eqb-one : (b : Bool) → eqb (one b) 1 ≡ b
 eqb-one true = refl
 eqb-one false = refl
 
--- rooted where the test passes, else unrooted
+-- ---- rooted where the test holds, else unrooted
 module _ (o : List ℕ) where
-  abbrev pub worthBy : Bool → (ℕ → Bool) → Forest → Value
+  abbrev worthBy : Bool → (ℕ → Bool) → Forest → Value
   worthBy true = rootedWorth o (weight o)
   worthBy false = unrootedWorth o (weight o)
-
-  abbrev pub rowBy : Bool → Forest → ℕ → Cand
-  rowBy true = rootedRow o (weight o)
-  rowBy false = acrossRow o (weight o)
 
   splits-by : (b : Bool) → Splits o (weight o) (worthBy b)
   splits-by true = rooted-splits o (weight o)
   splits-by false = unrooted-splits o (weight o)
 
-  row-by : (b : Bool) (F : Forest) → Once F → (c : ℕ) → Best (Sets (worthBy b) F) c (rowBy b F c)
+  row-by : (b : Bool) (F : Forest) → Once F → (c : ℕ) → Best (Sets (worthBy b) F) c (pick b (rootedRow o (weight o) F c) (acrossRow o (weight o) F c))
   row-by true = rooted-best o (weight o)
   row-by false = across-best o (weight o)
 
@@ -77,7 +73,7 @@ module _ (o : List ℕ) (linked : Linked o) where
       go false =
           value-path (unrooted-tree o linked s (marked-set m)) (cost-tree o linked s) (sum-all o linked (λ r f. pick (chosen s r) (weight o r) 0))
 
-  -- a set as a test of record numbers, as marks
+  -- a set given by a test of record numbers is one that the search lists
   module _ (p : ℕ → Bool) (taxa : groupsIn p (tree o 1) ≡ 0) where
     taxa-only : (r : ℕ) → 1 ≤ r → r < 1 + size o → isTaxon o r ≡ false → p r ≡ false
     unfolding records
@@ -119,9 +115,10 @@ module _ (o : List ℕ) (linked : Linked o) where
         go zero z = inl (e ∙ worth-tree way m ∙ quiet-by o (eqb way 0) (chosen s) (tree o 1) z)
         go (suc k) z = inr (record { set = chosen s; taxa = groups-none o linked s (marked-set m); some = omega arith; is = e ∙ worth-tree way m })
 
-  -- the better of the empty set and the row of record 1 is what the best set is worth
-  pub row-whole : (way b : ℕ) → betterOf (some nothingWorth) (rowBy o (eqb way 0) (tree o 1) b) ≡ some (worth o way (optimum o way b))
-  row-whole way b =
+  -- in every column, the top row is what the best set is worth
+  pub top-row : (way b : ℕ) → topRow o way b ≡ some (worth o way (optimum o way b))
+  unfolding topRow
+  top-row way b =
       best-unique
       (best-same (to-worths way) (of-worths way)
       (best-either (best-nothing b) (row-by o (eqb way 0) (tree o 1) (distinct o linked 1 (linked .filled)) b)))
