@@ -31,26 +31,26 @@ better o way s t =
     let ct = cost o t in
     ltb dt ds || (eqb ds dt && (ltb cs ct || (eqb cs ct && leads s t)))
 
--- what the search has in hand
-pub data Hand : Type 0 where
-  nothing : Hand
-  holding : List ℕ → Hand
+-- the best set met so far, document 01's hand
+pub data Incumbent : Type 0 where
+  nothing : Incumbent
+  holding : List ℕ → Incumbent
 
 -- a set is taken in hand if nothing is there, or if it is better than the one there
-unfoldable pub taken : List ℕ → ℕ → Hand → List ℕ → Hand
+unfoldable pub taken : List ℕ → ℕ → Incumbent → List ℕ → Incumbent
 taken o way nothing s = holding s
 taken o way (holding t) s = pick (better o way s t) (holding s) (holding t)
 
 -- a set that doesn't fit page count b is passed over
-unfoldable pub turn : List ℕ → ℕ → ℕ → Hand → List ℕ → Hand
-turn o way b hand s = pick (leb (cost o s) b) (taken o way hand s) hand
+unfoldable pub turn : List ℕ → ℕ → ℕ → Incumbent → List ℕ → Incumbent
+turn o way b held s = pick (leb (cost o s) b) (taken o way held s) held
 
 -- the search starts with nothing in hand and goes through every subset of the taxa
-unfoldable pub exhaustiveSearch : List ℕ → ℕ → ℕ → Hand
+unfoldable pub exhaustiveSearch : List ℕ → ℕ → ℕ → Incumbent
 exhaustiveSearch o way b = foldl (turn o way b) nothing (subsets o (records o))
 
--- the set in hand; the search never ends with nothing there (proofs/Optimum)
-unfoldable pub setOf : Hand → List ℕ
+-- the set in hand; the search never ends with nothing there (`search-ends` in laws/proofs/Optimum)
+unfoldable pub setOf : Incumbent → List ℕ
 setOf nothing = []
 setOf (holding s) = s
 

@@ -12,7 +12,7 @@ use borrow.Author.Tests.{lt-ltb}
 use Rattle.outline.specs.Lists.{pick, total}
 use Rattle.outline.specs.Outline.{records, price}
 use Rattle.diversity.specs.Diversity.{chosen, diversity, cost, Fits}
-use Rattle.diversity.specs.Search.{subsets, better, Hand, nothing, holding, taken, turn, exhaustiveSearch, setOf, optimum, bestDiversity, leastCost}
+use Rattle.diversity.specs.Search.{subsets, better, Incumbent, nothing, holding, taken, turn, exhaustiveSearch, setOf, optimum, bestDiversity, leastCost}
 use Rattle.diversity.specs.Behind.{IsSet, Behind, less-diversity, more-cost, lacks-first}
 use Rattle.laws.proofs.Candidate.{Value, beats, Cand, none, some, betterOf, oneAt}
 use Rattle.laws.proofs.Order.{more, cheaper, earlier, AtLeast}
@@ -28,11 +28,11 @@ Worths o way v = (t : List ℕ) × Marked o (records o) t × (v ≡ worth o way 
 -- ---- the search
 module _ (o : List ℕ) (way b : ℕ) where
   -- the candidate in hand
-  worthOf : Hand → Cand
+  worthOf : Incumbent → Cand
   worthOf nothing = none
   worthOf (holding s) = some (worth o way s)
 
-  Holds : Hand → Type 0
+  Holds : Incumbent → Type 0
   Holds nothing = Unit {0}
   Holds (holding s) = Marked o (records o) s
 
@@ -47,7 +47,7 @@ module _ (o : List ℕ) (way b : ℕ) where
   holds-pick false x y m n = n
 
   -- one turn, by whether the set fits
-  turn-worth : (t : Bool) (h : Hand) (s : List ℕ) → Holds h → Marked o (records o) s
+  turn-worth : (t : Bool) (h : Incumbent) (s : List ℕ) → Holds h → Marked o (records o) s
       → worthOf (pick t (taken o way h s) h) ≡ betterOf (worthOf h) (pick t (some (worth o way s)) none)
   unfolding worthOf taken betterOf Holds
   turn-worth true nothing s p m = refl
@@ -55,7 +55,7 @@ module _ (o : List ℕ) (way b : ℕ) where
   turn-worth false nothing s p m = refl
   turn-worth false (holding x) s p m = refl
 
-  turn-holds : (t : Bool) (h : Hand) (s : List ℕ) → Holds h → Marked o (records o) s → Holds (pick t (taken o way h s) h)
+  turn-holds : (t : Bool) (h : Incumbent) (s : List ℕ) → Holds h → Marked o (records o) s → Holds (pick t (taken o way h s) h)
   unfolding taken Holds
   turn-holds true nothing s p m = m
   turn-holds true (holding x) s p m = holds-pick (better o way s x) s x m p
@@ -64,7 +64,7 @@ module _ (o : List ℕ) (way b : ℕ) where
   abbrev All : List (List ℕ) → Type 0
   All l = (t : List ℕ) → List·Memᴰ t l → Marked o (records o) t
 
-  fold-holds : (h : Hand) (l : List (List ℕ)) → Holds h → All l → Holds (foldl (turn o way b) h l)
+  fold-holds : (h : Incumbent) (l : List (List ℕ)) → Holds h → All l → Holds (foldl (turn o way b) h l)
   unfolding turn
   fold-holds h [] p m = p
   fold-holds h (s ∷ l) p m = fold-holds _ l (turn-holds (leb (cost o s) b) h s p (m s (List·Memᴰ·head refl))) (λ t n. m t (List·Memᴰ·tail n))
@@ -82,12 +82,12 @@ module _ (o : List ℕ) (way b : ℕ) where
   cons-also P s l v (inl p) = inl (inl p)
   cons-also P s l v (inr (t, n, e)) = ⊎-elim (λ q. inl (inr (e ∙ ap (worth o way) q))) (λ n. inr (t, n, e)) (List·Memᴰ·cases-cons n)
 
-  turn-best : (P : Value → Type 0) (h : Hand) (s : List ℕ) → Holds h → Marked o (records o) s → Best P b (worthOf h)
+  turn-best : (P : Value → Type 0) (h : Incumbent) (s : List ℕ) → Holds h → Marked o (records o) s → Best P b (worthOf h)
       → Best (λ v. P v ⊎ (v ≡ worth o way s)) b (worthOf (turn o way b h s))
   unfolding turn oneAt worth
   turn-best P h s p m w = rw (turn-worth (leb (cost o s) b) h s p m) (best-either w (best-one (worth o way s) b))
 
-  fold-best : (P : Value → Type 0) (h : Hand) (l : List (List ℕ)) → Holds h → All l → Best P b (worthOf h)
+  fold-best : (P : Value → Type 0) (h : Incumbent) (l : List (List ℕ)) → Holds h → All l → Best P b (worthOf h)
       → Best (Also P l) b (worthOf (foldl (turn o way b) h l))
   unfolding turn
   fold-best P h [] p m w = best-same (λ v. inl) (λ v. ⊎-elim (λ x. x) (λ (t, n, e). absurd (List·Memᴰ·not-nil n))) w
@@ -142,7 +142,7 @@ cost-empty o = total-empty (price o) (records o) (records o)
 -- ---- what the search ends with
 module _ (o : List ℕ) (way b : ℕ) where
   -- the hand is not empty, and its set is the best
-  held : (h : Hand) → Holds o way b h → Best (Worths o way) b (worthOf o way b h)
+  held : (h : Incumbent) → Holds o way b h → Best (Worths o way) b (worthOf o way b h)
       → (s : List ℕ) × (h ≡ holding s) × Marked o (records o) s × Best (Worths o way) b (some (worth o way s))
   unfolding Holds worthOf worth
   held nothing p w =

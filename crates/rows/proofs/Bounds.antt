@@ -1,12 +1,14 @@
 -- How large the candidates of the rows can be, so that no sum in them overflows.
-use Prim.Native.Nat.{ℕ, _+_, _-_, _^_, _≤_, _<_}
+use Prim.Native.Nat.{ℕ, _+_, _*_, _-_, _^_, _≤_, _<_}
 use mathlib.Core.Path.{_≡_, ap, _∙_}
 use mathlib.Core.List.{List}
 use native.Mathlib.Omega.{arith}
 use lib.Pow.{pow-mono}
 use Rattle.outline.specs.Lists.{pick, total}
 use Rattle.outline.specs.Outline.{size, next, first, branch, price, records, isTaxon}
-use Rattle.outline.proofs.Kept.{Linked}
+use Rattle.outline.specs.Rules.{taxa}
+use Rattle.outline.specs.Verdict.{mostRecords, mostTaxa}
+use Rattle.outline.proofs.Kept.{Linked, Kept}
 use Rattle.laws.proofs.Sums.{total-ext, total-most}
 use Rattle.laws.proofs.Forest.{Forest, empty, node, sumIn, tree, tree-step, sum-part}
 use Rattle.laws.proofs.Candidate.{Value, Cand}
@@ -111,12 +113,18 @@ module _ (o : List ℕ) (linked : Linked o) (code : ℕ → ℕ) (r : ℕ) (u : 
   pub pushed-room : SmallRow d m n (pushed o code (tree o r) x)
   pushed-room b h = small-more _ _ (omega arith) (omega arith) (pushed-small o code (tree o r) _ _ n room b h)
 
--- what the check allows: 127 records, branches of a million, 64 taxa
-module _ (o : List ℕ) (linked : Linked o) (few : size o ≤ 127) (short : (r : ℕ) → 1 ≤ r → r ≤ size o → branch o r ≤ 1000000)
-    (taxa : taxaIn o (records o) ≤ 64) (r : ℕ) (u : r ≤ size o) where
-  pub branches-limit : branches o (tree o r) ≤ 127000000
+-- what an accepted outline allows: 127 records with branches of a million, 64 taxa
+module _ (o : List ℕ) (kept : Kept o) (r : ℕ) (u : r ≤ size o) where
+  pub branches-limit : branches o (tree o r) ≤ mostRecords * 1000000
   unfolding records
-  branches-limit = omega (arith, branches-most o linked r u, total-most (branch o) 1000000 1 (size o) (λ q l h. short q l (omega arith)))
+  branches-limit =
+      omega (
+        arith,
+        kept .size-most,
+        branches-most o (kept .linked) r u,
+        total-most (branch o) 1000000 1 (size o) (λ q l h. kept .ranged q l (omega arith) .branch-most),
+      )
 
-  pub codes-limit : codes (weight o) (tree o r) < 2 ^ 64
-  codes-limit = omega (arith, codes-most o linked (weight o) r u, weights-below o, pow-mono taxa)
+  pub codes-limit : codes (weight o) (tree o r) < 2 ^ mostTaxa
+  unfolding taxa taxaIn
+  codes-limit = omega (arith, codes-most o (kept .linked) (weight o) r u, weights-below o, pow-mono (kept .taxa-most))
