@@ -1,22 +1,15 @@
 -- What demand 3 says of every other set that fits: it shows less diversity, or as much for more quarters, or equals the best
 -- set in both and lacks the first taxon, by record number, on which the two differ.
-use Prim.Native.Nat.{ℕ, _-_, _≤_, _<_}
+use Prim.Native.Nat.{ℕ, _≤_, _<_}
 use mathlib.Core.Path.{_≡_}
 use mathlib.Core.Bool.{true, false}
 use mathlib.Core.List.{List}
-use mathlib.Core.Logic.{_⊎_}
-use lib.ListN.{length, getD}
-use Rattle.outline.specs.Outline.{size, isTaxon}
 use Rattle.diversity.specs.Diversity.{chosen, diversity, cost}
-
--- a set of taxa: a mark for each record, 0, or 1 at a taxon
-pub record IsSet (o s : List ℕ) : Type 0 where
-  pub whole : length s ≡ size o
-  pub marks : (r : ℕ) → 1 ≤ r → r ≤ size o → (getD s (r - 1) 0 ≡ 0) ⊎ ((getD s (r - 1) 0 ≡ 1) × (isTaxon o r ≡ true))
 
 -- record at is the first on which s and t differ, and t lacks it
 pub record Lacks (s t : List ℕ) : Type 0 where
   pub at : ℕ
+  pub low : 1 ≤ at
   pub before : (r : ℕ) → 1 ≤ r → r < at → chosen s r ≡ chosen t r
   pub has : chosen s at ≡ true
   pub lacks : chosen t at ≡ false

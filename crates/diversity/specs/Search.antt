@@ -65,11 +65,11 @@ bestDiversity o way b = diversity o way (optimum o way b)
 unfoldable pub leastCost : List ℕ → ℕ → ℕ → ℕ
 leastCost o way b = cost o (optimum o way b)
 
--- how many columns left of column b have diversity d, read leftwards until it drops, and at most to column 0
-unfoldable pub level : (ℕ → ℕ) → ℕ → ℕ → ℕ
-level curve d zero = 0
-level curve d (suc b) = pick (eqb (curve b) d) (suc (level curve d b)) 0
+-- how many columns next to column b on its left have diversity d, read leftwards until it drops, and at most to column 0
+unfoldable pub columnsAlike : (ℕ → ℕ) → ℕ → ℕ → ℕ
+columnsAlike curve d zero = 0
+columnsAlike curve d (suc b) = pick (eqb (curve b) d) (suc (columnsAlike curve d b)) 0
 
 -- the quarters that can go with the diversity unchanged
 unfoldable pub spare : List ℕ → ℕ → ℕ → ℕ
-spare o way b = level (bestDiversity o way) (bestDiversity o way b) b
+spare o way b = columnsAlike (bestDiversity o way) (bestDiversity o way b) b

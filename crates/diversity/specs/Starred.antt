@@ -4,10 +4,11 @@ use mathlib.Core.Path.{_≡_, refl}
 use mathlib.Core.List.{List, [], _∷_, _++_, map}
 use Rattle.outline.specs.Lists.{from, anywhere, total, lowest}
 use Rattle.outline.specs.Outline.{short, long, records}
-use Rattle.outline.specs.Rules.{badField, naming, named, badLink, taxa, hasPlate, isDuplicate}
+use Rattle.outline.specs.Rules.{badField, naming, named, badLink, taxaIn, taxa, hasPlate, isDuplicate}
 use Rattle.outline.specs.Verdict.{Told, passed, sizeRows, recordRows, checked}
-use Rattle.diversity.specs.Diversity.{chain, clade, chosen, within, elsewhere, rooted, unrooted, diversity, cost, members}
-use Rattle.diversity.specs.Search.{subsets, leads, better, taken, turn, exhaustiveSearch, setOf, optimum, bestDiversity, leastCost, level, spare}
+use Rattle.diversity.specs.Diversity.{chain, clade, chosen, within, elsewhere, rooted, unrooted, diversity, cost, chosenTaxa}
+use Rattle.diversity.specs.Search.{subsets, leads, better, taken, turn, exhaustiveSearch, setOf, optimum, bestDiversity, leastCost}
+use Rattle.diversity.specs.Search.{columnsAlike, spare}
 
 -- what choosing gives: what the check tells of the outline, the marks, and the four numbers
 pub record Choice : Type 0 where
@@ -45,7 +46,7 @@ computed c =
         marks = best;
         diversity = bestDiversity o (c .way) (c .count);
         cost = leastCost o (c .way) (c .count);
-        taxa = members o best;
+        taxa = chosenTaxa o best;
         spare = spare o (c .way) (c .count);
       };
       rivals = map (λ (v : Rival). record { marks = v .marks; diversity = diversity o (c .way) (v .marks); cost = cost o (v .marks) }) (c .rivals);
@@ -120,5 +121,9 @@ starred =
 
 -- each case of the list is what the definitions give for it
 pub starred-hold : map computed starred ≡ starred
-unfolding from anywhere total lowest short long records badField naming named badLink taxa hasPlate isDuplicate sizeRows recordRows checked chain clade chosen within elsewhere rooted unrooted diversity cost members subsets leads better taken turn exhaustiveSearch setOf optimum bestDiversity leastCost level spare bytes entry treeA treeB treeC treeD treeE starred
+unfolding
+    from anywhere total lowest short long records badField naming named badLink taxaIn taxa hasPlate
+    isDuplicate sizeRows recordRows checked chain clade chosen within elsewhere rooted unrooted diversity cost
+    chosenTaxa subsets leads better taken turn exhaustiveSearch setOf optimum bestDiversity leastCost
+    columnsAlike spare bytes entry treeA treeB treeC treeD treeE starred
 starred-hold = refl

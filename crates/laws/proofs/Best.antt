@@ -7,7 +7,7 @@ use native.Mathlib.Omega.{arith}
 use lib.Dec.{leb}
 use borrow.Author.Tests.{leb-true, leb-false}
 use Rattle.outline.specs.Lists.{pick}
-use Rattle.laws.proofs.Candidate.{Value, nothingWorth, beats, Cand, none, some, betterOf, oneAt}
+use Rattle.laws.specs.Candidate.{Value, nothingWorth, beats, Cand, none, some, betterOf, oneAt}
 use Rattle.laws.proofs.Order.{AtLeast, atleast-trans, atleast-antisym, Decided, beats-decides}
 
 -- a candidate that is there is a value of P that fits b

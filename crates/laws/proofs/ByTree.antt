@@ -10,22 +10,22 @@ use borrow.Author.Tests.{eq-eqb}
 use Rattle.outline.specs.Lists.{pick, one, anywhere, total}
 use Rattle.outline.specs.Outline.{size, first, branch, price, records, isTaxon}
 use Rattle.outline.proofs.Kept.{Linked}
-use Rattle.diversity.specs.Diversity.{clade, chosen, within, elsewhere, rooted, unrooted, cost}
-use Rattle.diversity.specs.Behind.{IsSet}
+use Rattle.diversity.specs.Diversity.{clade, chosen, within, elsewhere, rooted, unrooted, cost, IsSet}
+use Rattle.laws.specs.Forest.{Forest, empty, node, sumIn, countIn, tree, isGroup}
 use Rattle.laws.proofs.Sums.{positive, anywhere-count, occurs, occurs-most, eqb-comm, total-add, total-zero, total-ext, total-at}
-use Rattle.laws.proofs.Forest.{Forest, empty, node, sumIn, countIn, total-listed, chain-listed, tree, tree-step, members-cases, sum-all, inside, distinct}
+use Rattle.laws.proofs.Forest.{total-listed, chain-listed, tree-step, members-cases, sum-all, inside, distinct}
 use Rattle.laws.proofs.Marks.{group-unchosen}
-use Rattle.laws.proofs.Measures.{chosenIn, isGroup, groupsIn, costIn, rootedIn, unrootedIn, crossing, crossing-unrooted}
+use Rattle.laws.proofs.Measures.{chosenIn, groupsIn, costIn, rootedIn, unrootedIn, crossing, crossing-unrooted}
 
 total-clade : (w : ℕ → ℕ) (o : List ℕ) (r : ℕ) → total w (clade o r) ≡ w r + sumIn (λ q f. w q) (tree o (first o r))
 unfolding clade total tree
 total-clade w o r = ap (λ n. w r + n) (ap (total w) (chain-listed (size o) o (first o r)) ∙ total-listed w (tree o (first o r)))
 
 -- the records that are chosen at r or below it
-abbrev chosenBelow : List ℕ → List ℕ → ℕ → ℕ
+abbrev pub chosenBelow : List ℕ → List ℕ → ℕ → ℕ
 chosenBelow o s r = one (chosen s r) + chosenIn (chosen s) (tree o (first o r))
 
-within-count : (o s : List ℕ) (r : ℕ) → within o s r ≡ positive (chosenBelow o s r)
+pub within-count : (o s : List ℕ) (r : ℕ) → within o s r ≡ positive (chosenBelow o s r)
 unfolding within
 within-count o s r = anywhere-count (chosen s) (clade o r) ∙ ap positive (total-clade (λ q. one (chosen s q)) o r)
 
@@ -52,7 +52,7 @@ weighed o w (node r f n) h =
     once : occurs r (records o) ≡ 1
     once = omega (arith, h r, ap one (eq-eqb r r refl), occurs-most r 1 (size o))
 
--- a chosen record is in a list or is not
+-- of a chosen record and a list that has it k times, once at most: it is outside the list or in it
 apart : (b : Bool) (k : ℕ) → k ≤ 1 → one (b && not (positive k)) + one b * k ≡ one b
 apart true zero h = refl
 apart true (suc zero) h = refl
@@ -68,7 +68,7 @@ module _ (o : List ℕ) (linked : Linked o) (s : List ℕ) where
   unfolding cost
   cost-tree = sum-all o linked (λ r f. pick (chosen s r) (price o r) 0)
 
-  elsewhere-count : (r : ℕ) → 1 ≤ r → r ≤ size o → elsewhere o s r ≡ positive (chosenIn (chosen s) (tree o 1) - chosenBelow o s r)
+  pub elsewhere-count : (r : ℕ) → 1 ≤ r → r ≤ size o → elsewhere o s r ≡ positive (chosenIn (chosen s) (tree o 1) - chosenBelow o s r)
   unfolding elsewhere
   elsewhere-count r l u = anywhere-count out (records o) ∙ ap positive left
     where

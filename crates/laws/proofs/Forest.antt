@@ -1,4 +1,4 @@
--- The chain that begins at a record, as a tree: each record with its members and with the rest of its chain.
+-- Sums over all records are recursion over the links: each record stands once in the forest of record 1.
 use Prim.Native.Nat.{ℕ, zero, suc, _+_, _≤_, _<_}
 use mathlib.Core.Path.{_≡_, refl, sym, ap, ap₂, subst, _∙_}
 use mathlib.Core.Bool.{Bool, true, false}
@@ -10,22 +10,9 @@ use Rattle.outline.specs.Lists.{pick, one, total}
 use Rattle.outline.specs.Outline.{size, next, first, records, isTaxon}
 use Rattle.outline.proofs.Kept.{Linked}
 use Rattle.diversity.specs.Diversity.{chain}
+use Rattle.laws.specs.Forest.{Forest, empty, node, sumIn, countIn, shape, tree}
 use Rattle.laws.proofs.Sums.{occurs, occurs-most, total-append}
 use Rattle.laws.proofs.Links.{Namer, by-next, by-first, namer, total-by-links}
-
--- a record, its members, the rest of its chain
-pub data Forest : Type 0 where
-  empty : Forest
-  node : ℕ → Forest → Forest → Forest
-
--- the sum over a forest of what w makes of a record and its members
-abbrev pub sumIn : (ℕ → Forest → ℕ) → Forest → ℕ
-sumIn w empty = 0
-sumIn w (node r f n) = w r f + (sumIn w f + sumIn w n)
-
--- how often t stands in a forest
-abbrev pub countIn : ℕ → Forest → ℕ
-countIn t F = sumIn (λ r f. one (eqb t r)) F
 
 -- the records of a forest
 abbrev pub listed : Forest → List ℕ
@@ -37,21 +24,11 @@ unfolding total
 total-listed w empty = refl
 total-listed w (node r f n) = omega (arith, total-append w (listed f) (listed n), total-listed w f, total-listed w n)
 
--- the forest from record r on; k bounds how deep to look
-unfoldable pub shape : ℕ → List ℕ → ℕ → Forest
-shape zero o r = empty
-shape (suc k) o zero = empty
-shape (suc k) o (suc r) = node (suc r) (shape k o (first o (suc r))) (shape k o (next o (suc r)))
-
 pub chain-listed : (k : ℕ) (o : List ℕ) (r : ℕ) → chain k o r ≡ listed (shape k o r)
 unfolding chain shape
 chain-listed zero o r = refl
 chain-listed (suc k) o zero = refl
 chain-listed (suc k) o (suc r) = ap₂ (λ xs ys. suc r ∷ (xs ++ ys)) (chain-listed k o (first o (suc r))) (chain-listed k o (next o (suc r)))
-
--- the forest from record r on
-unfoldable pub tree : List ℕ → ℕ → Forest
-tree o r = shape (size o) o r
 
 shape-zero : (k : ℕ) (o : List ℕ) → shape k o 0 ≡ empty
 unfolding shape
@@ -98,7 +75,7 @@ module _ (o : List ℕ) (linked : Linked o) where
   sum-all w =
       total-by-links o linked (λ r. sumIn w (tree o r)) (ap (sumIn w) (tree-zero o)) (λ r. w r (tree o (first o r))) (λ r l u. ap (sumIn w) (tree-step r l u))
 
-  -- what record 1 has and each record hands on along its links, every record has
+  -- induction along the links: what record 1 has and each record hands on, every record q has; k is at least q
   pub reach : (P : ℕ → Type 0) → P 1 → ((r : ℕ) → 1 ≤ r → r ≤ size o → P r → P (first o r) × P (next o r))
       → (k q : ℕ) → q ≤ k → 1 ≤ q → q ≤ size o → P q
   reach P root down zero q h l u = absurd (omega arith)

@@ -1,7 +1,7 @@
 -- A taxon of price 0 is always chosen: a set that lacks it is behind the same set with it.
-use Prim.Native.Nat.{ℕ, zero, _-_, _≤_}
+use Prim.Native.Nat.{ℕ, _-_, _≤_}
 use mathlib.Core.Path.{_≡_, refl, sym, ap, _∙_}
-use mathlib.Core.Logic.{_⊎_, inr}
+use mathlib.Core.Logic.{inr}
 use mathlib.Core.Bool.{Bool, true, false, _||_, _&&_, false≢true}
 use mathlib.Core.List.{List, [], _∷_}
 use native.Mathlib.Omega.{arith}
@@ -11,9 +11,9 @@ use lib.Seq.{getD-set-same, getD-set-other}
 use borrow.Author.Tests.{eqb-true, eqb-false, eq-eqb}
 use Rattle.outline.specs.Lists.{pick, anywhere}
 use Rattle.outline.specs.Outline.{size, records, branch, price, isTaxon}
-use Rattle.diversity.specs.Diversity.{clade, chosen, within, elsewhere, rooted, unrooted, diversity, cost}
+use Rattle.diversity.specs.Diversity.{clade, chosen, within, elsewhere, rooted, unrooted, diversity, cost, MarkAt, IsSet}
 use Rattle.diversity.specs.Search.{optimum}
-use Rattle.diversity.specs.Behind.{IsSet, Behind, less-diversity, more-cost, lacks-first}
+use Rattle.diversity.specs.Behind.{Behind, less-diversity, more-cost, lacks-first}
 use Rattle.laws.proofs.Sums.{total-ext, total-below}
 use Rattle.laws.proofs.Optimum.{optimum-set, optimum-fits, others-behind}
 
@@ -89,7 +89,7 @@ module _ (o s : List ℕ) (x : IsSet o s) (r : ℕ) (l : 1 ≤ r) (u : r ≤ siz
   unfolding joined
   joined-set taxon = record { whole = length-set s (r - 1) 1 ∙ x .whole; marks = λ q m v. go q m v (eqb (q - 1) (r - 1)) refl }
     where
-      go : (q : ℕ) → 1 ≤ q → q ≤ size o → (b : Bool) → eqb (q - 1) (r - 1) ≡ b → (getD joined (q - 1) 0 ≡ 0) ⊎ ((getD joined (q - 1) 0 ≡ 1) × (isTaxon o q ≡ true))
+      go : (q : ℕ) → 1 ≤ q → q ≤ size o → (b : Bool) → eqb (q - 1) (r - 1) ≡ b → MarkAt o q (getD joined (q - 1) 0)
       go q m v true e =
           let same : q ≡ r = omega (arith, eqb-true (q - 1) (r - 1) e) in
           inr (joined-here q e, ap (isTaxon o) same ∙ taxon)
@@ -104,11 +104,12 @@ module _ (o s : List ℕ) (x : IsSet o s) (r : ℕ) (l : 1 ≤ r) (u : r ≤ siz
       none true = refl
       none false = refl
 
-      go : (q : ℕ) → 1 ≤ q → (b : Bool) → eqb (q - 1) (r - 1) ≡ b → pick (eqb (getD joined (q - 1) 0) 1) (price o q) 0 ≡ pick (eqb (getD s (q - 1) 0) 1) (price o q) 0
+      go : (q : ℕ) → 1 ≤ q → (b : Bool) → eqb (q - 1) (r - 1) ≡ b
+          → pick (eqb (getD joined (q - 1) 0) 1) (price o q) 0 ≡ pick (eqb (getD s (q - 1) 0) 1) (price o q) 0
       go q m true e =
           let same : q ≡ r = omega (arith, eqb-true (q - 1) (r - 1) e) in
-          let zero : price o q ≡ 0 = ap (price o) same ∙ free in
-          rw zero (none (eqb (getD joined (q - 1) 0) 1) ∙ sym (none (eqb (getD s (q - 1) 0) 1)))
+          let costless : price o q ≡ 0 = ap (price o) same ∙ free in
+          rw costless (none (eqb (getD joined (q - 1) 0) 1) ∙ sym (none (eqb (getD s (q - 1) 0) 1)))
       go q m false e = rw (joined-else q e)
 
 -- a taxon of price 0 is always chosen

@@ -1,8 +1,7 @@
 -- Laws of the definitions, for the crates above.
 pub mod Best
 pub mod ByTree
-pub mod Candidate
-pub mod Few
+pub mod FewTaxa
 pub mod Forest
 pub mod Free
 pub mod Links

@@ -1,17 +1,18 @@
 -- Sets of taxa as the exhaustive search lists them: a mark for each record, 0, or 1 at a taxon.
 use Prim.Native.Nat.{ℕ, zero, suc, _+_, _-_, _≤_, _<_}
 use mathlib.Core.Path.{_≡_, refl, sym, ap, subst, _∙_}
-use mathlib.Core.Logic.{_⊎_, inl, inr, ⊎-elim, _↔_}
+use mathlib.Core.Logic.{inl, inr, ⊎-elim, _↔_}
 use mathlib.Core.Bool.{Bool, true, false, false≢true}
-use mathlib.Core.List.{List, [], _∷_, map, List·Memᴰ, List·Memᴰ·head, Memᴰ·map, Memᴰ·of-map, Memᴰ·append-left, Memᴰ·append-right, List·Memᴰ·append-cases, List·Memᴰ·eq-of-singleton, List·Memᴰ·not-nil}
+use mathlib.Core.List.{List, [], _∷_, map, List·Memᴰ, List·Memᴰ·head, Memᴰ·map, Memᴰ·of-map, Memᴰ·append-left, Memᴰ·append-right}
+use mathlib.Core.List.{List·Memᴰ·append-cases, List·Memᴰ·eq-of-singleton, List·Memᴰ·not-nil}
 use native.Mathlib.Omega.{arith}
 use lib.Dec.{eqb}
 use lib.ListN.{length, getD}
 use Rattle.outline.specs.Lists.{pick, from}
 use Rattle.outline.specs.Outline.{size, records, isTaxon}
-use Rattle.diversity.specs.Diversity.{chosen}
+use Rattle.diversity.specs.Diversity.{chosen, MarkAt, IsSet}
 use Rattle.diversity.specs.Search.{subsets, leads}
-use Rattle.diversity.specs.Behind.{IsSet, Lacks}
+use Rattle.diversity.specs.Behind.{Lacks}
 
 -- marks over the given records: 0, or 1 at a taxon
 pub data Marked (o : List ℕ) : List ℕ → List ℕ → Type 0 where
@@ -70,10 +71,6 @@ map-at f k (suc n) (suc i) h = map-at f (k + 1) n i (omega arith) ∙ ap f (omeg
 record-at : (o : List ℕ) (r : ℕ) → 1 ≤ r → r ≤ size o → getD (records o) (r - 1) 0 ≡ r
 unfolding records
 record-at o r l u = from-at 1 (size o) (r - 1) (omega arith) ∙ omega arith
-
--- mark a may stand at record r
-abbrev MarkAt : List ℕ → ℕ → ℕ → Type 0
-MarkAt o r a = (a ≡ 0) ⊎ ((a ≡ 1) × (isTaxon o r ≡ true))
 
 marked-length : {o rs s : List ℕ} → Marked o rs s → length s ≡ length rs
 marked-length done = refl
@@ -152,6 +149,7 @@ leads-lacks {s = s} {t} m n e =
     let same : suc (d .at) - 1 ≡ d .at = omega arith in
     record {
       at = suc (d .at);
+      low = omega arith;
       before = λ r l h. ap (λ (k : ℕ). eqb k 1) (d .before (r - 1) (omega arith));
       has = rw (same, d .has);
       lacks = rw (same, d .lacks);

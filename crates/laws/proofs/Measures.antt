@@ -6,17 +6,12 @@ use mathlib.Core.List.{List}
 use native.Mathlib.Omega.{arith}
 use Rattle.outline.specs.Lists.{pick, one}
 use Rattle.outline.specs.Outline.{branch, price}
+use Rattle.laws.specs.Forest.{Forest, empty, node, isGroup, sumIn}
 use Rattle.laws.proofs.Sums.{positive, positive-true}
-use Rattle.laws.proofs.Forest.{Forest, empty, node, sumIn}
 
 -- how many records of the forest are chosen
 abbrev pub chosenIn : (ℕ → Bool) → Forest → ℕ
 chosenIn p F = sumIn (λ r f. one (p r)) F
-
--- a record with these members is a group
-abbrev pub isGroup : Forest → Bool
-isGroup empty = false
-isGroup (node r f n) = true
 
 -- how many groups are chosen
 abbrev pub groupsIn : (ℕ → Bool) → Forest → ℕ

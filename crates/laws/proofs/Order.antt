@@ -1,4 +1,4 @@
--- The order of values: total, transitive, antisymmetric, kept by sums; and what betterOf, joinOf and chargeOf do with it.
+-- The order of values: total, transitive, antisymmetric, kept by sums; and the better of two candidates, in whatever order they come.
 use Prim.Native.Nat.{ℕ, _<_}
 use mathlib.Core.Path.{_≡_, refl, sym, ap, subst, _∙_}
 use mathlib.Core.Logic.{_⊎_, inl, inr, _≢_}
@@ -8,7 +8,7 @@ use native.Mathlib.Nat.{eq-or-lt-of-le}
 use lib.Dec.{eqb, ltb}
 use borrow.Author.Tests.{ltb-true, ltb-false, eqb-true, eqb-false}
 use Rattle.outline.specs.Lists.{pick}
-use Rattle.laws.proofs.Candidate.{Value, plus, charge, beats, Cand, none, some, betterOf}
+use Rattle.laws.specs.Candidate.{Value, plus, charge, beats, Cand, none, some, betterOf}
 
 -- v is better than w
 pub data Beats (v w : Value) : Type 0 where
@@ -44,11 +44,6 @@ beats-plus u (more p) = more (omega arith)
 beats-plus u (cheaper d p) = cheaper (omega arith) (omega arith)
 beats-plus u (earlier d c p) = earlier (omega arith) (omega arith) (omega arith)
 
-pub beats-charge : {v w : Value} (n : ℕ) → Beats v w → Beats (charge v n) (charge w n)
-beats-charge n (more p) = more (omega arith)
-beats-charge n (cheaper d p) = cheaper (omega arith) (omega arith)
-beats-charge n (earlier d c p) = earlier (omega arith) (omega arith) (omega arith)
-
 pub atleast-trans : {u v w : Value} → AtLeast u v → AtLeast v w → AtLeast u w
 atleast-trans (inl p) (inl q) = inl (q ∙ p)
 atleast-trans {w = w} (inl p) (inr q) = inr (subst (λ (x : Value). Beats x w) p q)
@@ -64,18 +59,25 @@ pub atleast-plus : {v w : Value} (u : Value) → AtLeast v w → AtLeast (plus v
 atleast-plus u (inl p) = inl (ap (λ (x : Value). plus x u) p)
 atleast-plus u (inr p) = inr (beats-plus u p)
 
-pub atleast-charge : {v w : Value} (n : ℕ) → AtLeast v w → AtLeast (charge v n) (charge w n)
-atleast-charge n (inl p) = inl (ap (λ (x : Value). charge x n) p)
-atleast-charge n (inr p) = inr (beats-charge n p)
-
 pub plus-assoc : (u v w : Value) → plus (plus u v) w ≡ plus u (plus v w)
 plus-assoc u v w = value-path (omega arith) (omega arith) (omega arith)
 
-pub plus-charge : (v w : Value) (n : ℕ) → plus (charge v n) w ≡ charge (plus v w) n
-plus-charge v w n = value-path (omega arith) refl refl
-
 pub plus-comm : (v w : Value) → plus v w ≡ plus w v
 plus-comm v w = value-path (omega arith) (omega arith) (omega arith)
+
+-- a charge is a sum with a branch alone
+branchAlone : ℕ → Value
+branchAlone n = record { diversity = n; cost = 0; code = 0 }
+
+charge-plus : (v : Value) (n : ℕ) → charge v n ≡ plus v (branchAlone n)
+unfolding branchAlone
+charge-plus v n = value-path refl (omega arith) (omega arith)
+
+pub atleast-charge : {v w : Value} (n : ℕ) → AtLeast v w → AtLeast (charge v n) (charge w n)
+atleast-charge {v} {w} n p = rw (charge-plus v n, charge-plus w n) (atleast-plus (branchAlone n) p)
+
+pub plus-charge : (v w : Value) (n : ℕ) → plus (charge v n) w ≡ charge (plus v w) n
+plus-charge v w n = value-path (omega arith) refl refl
 
 pub atleast-both : {v w x y : Value} → AtLeast v w → AtLeast x y → AtLeast (plus v x) (plus w y)
 atleast-both {v} {w} {x} {y} p q = atleast-trans (atleast-plus x p) (rw (plus-comm w x, plus-comm w y) (atleast-plus w q))

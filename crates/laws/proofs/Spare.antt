@@ -6,16 +6,17 @@ use mathlib.Core.List.{List}
 use native.Mathlib.Omega.{arith}
 use native.Mathlib.Nat.{eq-or-lt-of-le}
 use borrow.Author.Tests.{eq-eqb, ne-eqb}
-use Rattle.diversity.specs.Search.{optimum, bestDiversity, leastCost, level, spare}
+use Rattle.diversity.specs.Search.{optimum, bestDiversity, leastCost, columnsAlike, spare}
 use Rattle.laws.proofs.Optimum.{optimum-set, optimum-fits, greatest-diversity, least-cost}
 
 -- reading leftwards passes the columns from c on, and no other
-level-from : (curve : ℕ → ℕ) (d c n : ℕ) → c ≤ n → ((b : ℕ) → c ≤ b → b < n → curve b ≡ d) → ((b : ℕ) → b < c → curve b ≡ d → ⊥) → level curve d n ≡ n - c
-unfolding level
+level-from : (curve : ℕ → ℕ) (d c n : ℕ) → c ≤ n → ((b : ℕ) → c ≤ b → b < n → curve b ≡ d) → ((b : ℕ) → b < c → curve b ≡ d → ⊥)
+    → columnsAlike curve d n ≡ n - c
+unfolding columnsAlike
 level-from curve d c zero l same drops = omega arith
 level-from curve d c (suc n) l same drops = go (eq-or-lt-of-le l) (λ m. level-from curve d c n m (λ b k u. same b k (omega arith)) drops)
   where
-    go : (c ≡ suc n) ⊎ (suc c ≤ suc n) → (c ≤ n → level curve d n ≡ n - c) → level curve d (suc n) ≡ suc n - c
+    go : (c ≡ suc n) ⊎ (suc c ≤ suc n) → (c ≤ n → columnsAlike curve d n ≡ n - c) → columnsAlike curve d (suc n) ≡ suc n - c
     go (inl e) ih = rw (ne-eqb (curve n) d (drops n (omega arith))) (omega arith)
     go (inr h) ih = rw (eq-eqb (curve n) d (same n (omega arith) (omega arith))) (omega (arith, ih (omega arith)))
 

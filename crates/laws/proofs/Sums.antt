@@ -7,7 +7,7 @@ use native.Mathlib.Omega.{arith}
 use native.Mathlib.Nat.{zero-add}
 use lib.Dec.{eqb, ltb}
 use borrow.Author.Tests.{eqb-true, eqb-false, eq-eqb, ne-eqb, ltb-true, ltb-false}
-use Rattle.outline.specs.Lists.{one, from, anywhere, total}
+use Rattle.outline.specs.Lists.{pick, one, from, anywhere, total}
 
 -- a number as a test
 abbrev pub positive : ℕ → Bool
@@ -55,6 +55,10 @@ pub total-zero : (xs : List ℕ) → total (λ x. 0) xs ≡ 0
 unfolding total
 total-zero [] = refl
 total-zero (x ∷ xs) = omega (arith, total-zero xs)
+
+-- a sum in which nothing is counted
+pub total-uncounted : (p : ℕ → Bool) (f : ℕ → ℕ) (xs : List ℕ) → ((x : ℕ) → p x ≡ false) → total (λ x. pick (p x) (f x) 0) xs ≡ 0
+total-uncounted p f xs h = ap (λ (g : ℕ → ℕ). total g xs) (fun-ext (λ x. ap (λ (b : Bool). pick b (f x) 0) (h x))) ∙ total-zero xs
 
 -- a double sum, in either order
 pub total-swap : (f : ℕ → ℕ → ℕ) (xs ys : List ℕ) → total (λ x. total (f x) ys) xs ≡ total (λ y. total (λ x. f x y) xs) ys

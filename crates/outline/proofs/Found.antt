@@ -10,11 +10,11 @@ use lib.Seq.{length-take-le, getD-take, getD-drop}
 use lib.Dec.{eqb}
 use borrow.Author.Tests.{eqb-true, eqb-false, eq-eqb, ne-eqb}
 use Rattle.outline.specs.Lists.{pick, lowest}
-use Rattle.outline.specs.Outline.{short, long, size, records, next, plate, isTaxon}
+use Rattle.outline.specs.Outline.{short, long, size, records, plate, isTaxon}
 use Rattle.outline.specs.Rules.{hasPlate}
 use Rattle.outline.specs.Verdict.{isAccepted, bytesOf, found}
 use Rattle.outline.proofs.Kept.{Kept, accepted-kept}
-use Rattle.outline.proofs.Tests.{and-true}
+use Rattle.outline.proofs.Bools.{both-true}
 use Rattle.outline.proofs.Walk.{lowest-none, lowest-holds}
 
 -- some taxon has plate p
@@ -44,14 +44,14 @@ module _ (o : List ℕ) (kept : Kept o) (r : ℕ) (l : 1 ≤ r) (u : r ≤ size 
   part-short : (at : ℕ) → at + 1 < 16 → short part at ≡ short o (16 * (r - 1) + at)
   unfolding part short
   part-short at h =
-      let next : 16 * (r - 1) + (at + 1) ≡ 16 * (r - 1) + at + 1 = omega arith in
-      rw (getD-take 16 (drop (16 * (r - 1)) o) at 0 (omega arith), getD-take 16 (drop (16 * (r - 1)) o) (at + 1) 0 h, getD-drop, getD-drop (16 * (r - 1)) o (at + 1) 0, next)
+      let later : 16 * (r - 1) + (at + 1) ≡ 16 * (r - 1) + at + 1 = omega arith in
+      rw (getD-take 16 (drop (16 * (r - 1)) o) at 0 (omega arith), getD-take 16 (drop (16 * (r - 1)) o) (at + 1) 0 h, getD-drop, getD-drop (16 * (r - 1)) o (at + 1) 0, later)
 
   part-long : (at : ℕ) → at + 3 < 16 → long part at ≡ long o (16 * (r - 1) + at)
   unfolding long
   part-long at h =
-      let next : 16 * (r - 1) + (at + 2) ≡ 16 * (r - 1) + at + 2 = omega arith in
-      rw (part-short at (omega arith), part-short (at + 2) (omega arith), next)
+      let later : 16 * (r - 1) + (at + 2) ≡ 16 * (r - 1) + at + 2 = omega arith in
+      rw (part-short at (omega arith), part-short (at + 2) (omega arith), later)
 
   part-carries : (p : ℕ) → isTaxon o r ≡ true → plate o r ≡ p → Carries p part
   part-carries p t e = record {
@@ -70,7 +70,7 @@ module _ (o : List ℕ) (p : ℕ) where
   unfolding at records hasPlate
   at-holds d =
       let (low, high, e) = lowest-holds (hasPlate o p) (size o) d in
-      let both = and-true _ _ e in
+      let both = both-true _ _ e in
       (low, high, both .0, eqb-true _ _ (both .1))
 
   -- where a taxon has the plate, the lowest is that one

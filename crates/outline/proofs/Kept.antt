@@ -10,8 +10,8 @@ use borrow.Author.Tests.{eqb-true, eqb-false, ltb-true, ltb-false, leb-false, ne
 use Rattle.outline.specs.Outline.{size, records, next, first, branch, price, plate, isTaxon}
 use Rattle.outline.specs.Rules.{badField, stray, named, badLink, taxa, hasPlate, isDuplicate}
 use Rattle.outline.specs.Verdict.{mostRecords, mostTaxa, sizeRows, recordRows, checked, isAccepted}
-use Rattle.outline.proofs.Rows.{both-pass, row-fails, row-at-fails}
-use Rattle.outline.proofs.Tests.{or-false, and-false}
+use Rattle.outline.proofs.Refusals.{both-pass, row-fails, row-at-fails}
+use Rattle.outline.proofs.Bools.{both-false, second-false}
 use Rattle.outline.proofs.Walk.{lowest-none, anywhere-none}
 
 -- q is 0, or the number of a record after r
@@ -49,8 +49,8 @@ module _ (o : List ℕ) (r : ℕ) where
   ranged-by : (b : Bool) → isTaxon o r ≡ b → badField o r ≡ false → Ranged o r
   unfolding badField
   ranged-by true t e =
-      let e′ = or-false _ _ (simp t at e) in
-      let f = or-false _ _ (e′ .1) in
+      let e′ = both-false _ _ (simp t at e) in
+      let f = both-false _ _ (e′ .1) in
       let p = eqb-false (plate o r) 0 (f .1) in
       record {
         branch-most = ltb-false _ _ (e′ .0);
@@ -60,8 +60,8 @@ module _ (o : List ℕ) (r : ℕ) where
         group-plate = λ g. absurd (false≢true (sym g ∙ t));
       }
   ranged-by false t e =
-      let e′ = or-false _ _ (simp t at e) in
-      let f = or-false _ _ (e′ .1) in
+      let e′ = both-false _ _ (simp t at e) in
+      let f = both-false _ _ (e′ .1) in
       let p : price o r ≡ 0 = eqb-true _ _ (not-false _ (f .0)) in
       record {
         branch-most = ltb-false _ _ (e′ .0);
@@ -74,28 +74,28 @@ module _ (o : List ℕ) (r : ℕ) where
   later-by : (link : ℕ) (b : Bool) → eqb link 0 ≡ b → stray o r link ≡ false → Later o r link
   later-by link true t e = let z = eqb-true link 0 t in record { later = λ h. absurd (omega arith); most = omega arith }
   later-by link false t e =
-      let f = or-false _ _ (simp t at e) in
+      let f = both-false _ _ (simp t at e) in
       record { later = λ _. leb-false _ _ (f .0); most = ltb-false _ _ (f .1) }
 
   own-links : badLink o r ≡ false → Later o r (next o r) × Later o r (first o r)
   unfolding badLink
   own-links e =
-      let f = or-false _ _ (or-false _ _ e .0) in
+      let f = both-false _ _ (both-false _ _ e .0) in
       (later-by (next o r) _ refl (f .0), later-by (first o r) _ refl (f .1))
 
   named-by : 2 ≤ r → badLink o r ≡ false → named o r ≡ 1
   unfolding badLink
   named-by h e =
       let other : eqb r 1 ≡ false = ne-eqb r 1 (omega arith) in
-      eqb-true _ _ (not-false _ (simp other at (or-false (stray o r (next o r) || stray o r (first o r)) _ e .1)))
+      eqb-true _ _ (not-false _ (simp other at (both-false (stray o r (next o r) || stray o r (first o r)) _ e .1)))
 
   undoubled : isDuplicate o r ≡ false → (q : ℕ) → 1 ≤ q → q < r → isTaxon o q ≡ true → plate o q ≡ plate o r → ⊥
   unfolding isDuplicate hasPlate
-  undoubled e q l u t = eqb-false _ _ (and-false _ _ (anywhere-none _ _ e q l (omega arith)) t)
+  undoubled e q l u t = eqb-false _ _ (second-false _ _ (anywhere-none _ _ e q l (omega arith)) t)
 
 root-by : (o : List ℕ) → badLink o 1 ≡ false → next o 1 ≡ 0
 unfolding badLink
-root-by o e = eqb-true _ _ (not-false _ (or-false (stray o 1 (next o 1) || stray o 1 (first o 1)) _ e .1))
+root-by o e = eqb-true _ _ (not-false _ (both-false (stray o 1 (next o 1) || stray o 1 (first o 1)) _ e .1))
 
 differ : (o : List ℕ) (q r : ℕ) → 1 ≤ q → 1 ≤ r → isTaxon o q ≡ true → isTaxon o r ≡ true → plate o q ≡ plate o r
     → isDuplicate o q ≡ false → isDuplicate o r ≡ false → (a : Bool) → ltb q r ≡ a → (b : Bool) → ltb r q ≡ b → q ≡ r
@@ -106,7 +106,7 @@ differ o q r lq lr tq tr e uq ur false a false b = omega (arith, ltb-false q r a
 -- ---- the rows
 sized : (o : List ℕ) → (eqb (length o) 0 || not (eqb (length o % 16) 0)) ≡ false → (1 ≤ size o) × (length o ≡ 16 * size o)
 sized o e =
-    let f = or-false (eqb (length o) 0) (not (eqb (length o % 16) 0)) e in
+    let f = both-false (eqb (length o) 0) (not (eqb (length o % 16) 0)) e in
     omega (arith, eqb-false (length o) 0 (f .0), eqb-true (length o % 16) 0 (not-false _ (f .1)))
 
 -- rows 2 and 3

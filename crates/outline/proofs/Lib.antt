@@ -1,6 +1,6 @@
 -- Laws that belong to no one function, for the proofs here and in the crates above.
+pub mod Bools
 pub mod Found
 pub mod Kept
-pub mod Rows
-pub mod Tests
+pub mod Refusals
 pub mod Walk

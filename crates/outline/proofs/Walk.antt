@@ -24,7 +24,7 @@ rest-none : (r n : ℕ) → n < r → rest r n ≡ []
 unfolding from
 rest-none r n h = let e : n + 1 - r ≡ 0 = omega arith in rw e
 
--- the sum so far, with the sum of what is left, is the whole sum, and is small where each term is at most 2
+-- the sum so far, with the sum of what is left, is the whole sum; it is at most 2 for each number passed, so it does not overflow
 pub record Summing (f : ℕ → ℕ) (n sum r : ℕ) : Type 0 where
   pub low : 1 ≤ r
   pub small : sum ≤ 2 * (r - 1)
@@ -125,7 +125,8 @@ unfolding anywhere lowest from
 anywhere-from p k zero h = refl
 anywhere-from p k (suc n) h = go (p k) refl (anywhere-from p (k + 1) n (omega arith))
   where
-    go : (b : Bool) → p k ≡ b → not (eqb (lowest p (from (k + 1) n)) 0) ≡ anywhere p (from (k + 1) n) → not (eqb (lowest p (from k (suc n))) 0) ≡ anywhere p (from k (suc n))
+    go : (b : Bool) → p k ≡ b → not (eqb (lowest p (from (k + 1) n)) 0) ≡ anywhere p (from (k + 1) n)
+        → not (eqb (lowest p (from k (suc n))) 0) ≡ anywhere p (from k (suc n))
     go true e ih = rw e (ap not (ne-eqb k 0 (omega arith)))
     go false e ih = rw e ih
 

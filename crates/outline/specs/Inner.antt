@@ -1,4 +1,4 @@
--- What the functions behind `check` and `find` speak of. No public contract cites it.
+-- What the functions behind `check` and `find` speak of: a record's number, and a rule by its name in the code.
 use Prim.Native.Nat.{ℕ, _≤_}
 use mathlib.Core.Bool.{Bool}
 use mathlib.Core.List.{List}
@@ -8,7 +8,7 @@ use Rattle.outline.specs.declared.rules.Rule.{Rule}
 use Rattle.outline.specs.declared.rules.Rule.the-variants.{Field, Link, Duplicate}
 
 -- r is a record's number
-pub record Recorded (o : List ℕ) (r : ℕ) : Type 0 where
+pub record IsRecord (o : List ℕ) (r : ℕ) : Type 0 where
   pub low : 1 ≤ r
   pub high : r ≤ size o
 

@@ -33,11 +33,11 @@ first o r = short o (16 * (r - 1) + 2)
 abbrev pub branch : List ℕ → ℕ → ℕ
 branch o r = long o (16 * (r - 1) + 4)
 
--- bytes 8 to 11
+-- bytes 8 to 11: the price, in quarters
 abbrev pub price : List ℕ → ℕ → ℕ
 price o r = long o (16 * (r - 1) + 8)
 
--- bytes 12 to 15
+-- bytes 12 to 15: the plate's number
 abbrev pub plate : List ℕ → ℕ → ℕ
 plate o r = long o (16 * (r - 1) + 12)
 

@@ -9,10 +9,9 @@ use Rattle.outline.specs.Outline.{size, records, next, first, branch, pr
 -- refusal 5: length, price or plate outside its range. A taxon's plate is not 0, a group's price and plate are
 unfoldable pub badField : List ℕ → ℕ → Bool
 badField o r =
-    ltb 1000000 (branch o r)
-    || pick (isTaxon o r)
-    (ltb 65535 (price o r) || eqb (plate o r) 0)
-    (not (eqb (price o r) 0) || not (eqb (plate o r) 0))
+    let badTaxon = ltb 65535 (price o r) || eqb (plate o r) 0 in
+    let badGroup = not (eqb (price o r) 0) || not (eqb (plate o r) 0) in
+    ltb 1000000 (branch o r) || pick (isTaxon o r) badTaxon badGroup
 
 -- a link of record r that isn't 0 and isn't a later record's number up to N
 abbrev pub stray : List ℕ → ℕ → ℕ → Bool
@@ -34,9 +33,12 @@ badLink o r =
     || stray o r (first o r)
     || pick (eqb r 1) (not (eqb (next o r) 0)) (not (eqb (named o r) 1))
 
--- how many taxa there are, for refusal 7
+-- how many of the records rs are taxa, and how many taxa there are, for refusal 7
+unfoldable pub taxaIn : List ℕ → List ℕ → ℕ
+taxaIn o rs = total (λ r. one (isTaxon o r)) rs
+
 unfoldable pub taxa : List ℕ → ℕ
-taxa o = total (λ r. one (isTaxon o r)) (records o)
+taxa o = taxaIn o (records o)
 
 -- record r is the taxon of plate p
 unfoldable pub hasPlate : List ℕ → ℕ → ℕ → Bool

@@ -2,7 +2,7 @@
 ghost use mathlib.Core.Path.{_≡_};
 ghost use Prim.Native.Nat.{_+_, _<_};
 ghost use lib.ListN.{length};
-ghost use Rattle.outline.specs.Inner.{Recorded};
+ghost use Rattle.outline.specs.Inner.{IsRecord};
 ghost use Rattle.outline.specs.Outline.{short, long, next, first, branch, price, plate, isTaxon};
 
 // The number of two bytes at a place.
@@ -22,42 +22,42 @@ fn long_at(o: &[u8], at: usize) -> u32
 }
 
 pub fn next_of(o: &[u8], r: usize) -> usize
-    requires { ⌜ Recorded (now o) r ⌝ }
+    requires { ⌜ IsRecord (now o) r ⌝ }
     ensures { λ v. ⌜ v ≡ next (now (o .entry)) r ⌝ }
 {
     short_at(o, 16 * (r - 1)) as usize
 }
 
 pub fn first_of(o: &[u8], r: usize) -> usize
-    requires { ⌜ Recorded (now o) r ⌝ }
+    requires { ⌜ IsRecord (now o) r ⌝ }
     ensures { λ v. ⌜ v ≡ first (now (o .entry)) r ⌝ }
 {
     short_at(o, 16 * (r - 1) + 2) as usize
 }
 
 pub fn branch_of(o: &[u8], r: usize) -> u32
-    requires { ⌜ Recorded (now o) r ⌝ }
+    requires { ⌜ IsRecord (now o) r ⌝ }
     ensures { λ v. ⌜ v ≡ branch (now (o .entry)) r ⌝ }
 {
     long_at(o, 16 * (r - 1) + 4)
 }
 
 pub fn price_of(o: &[u8], r: usize) -> u32
-    requires { ⌜ Recorded (now o) r ⌝ }
+    requires { ⌜ IsRecord (now o) r ⌝ }
     ensures { λ v. ⌜ v ≡ price (now (o .entry)) r ⌝ }
 {
     long_at(o, 16 * (r - 1) + 8)
 }
 
 pub fn plate_of(o: &[u8], r: usize) -> u32
-    requires { ⌜ Recorded (now o) r ⌝ }
+    requires { ⌜ IsRecord (now o) r ⌝ }
     ensures { λ v. ⌜ v ≡ plate (now (o .entry)) r ⌝ }
 {
     long_at(o, 16 * (r - 1) + 12)
 }
 
 pub fn is_taxon(o: &[u8], r: usize) -> bool
-    requires { ⌜ Recorded (now o) r ⌝ }
+    requires { ⌜ IsRecord (now o) r ⌝ }
     ensures { λ v. ⌜ v ≡ isTaxon (now (o .entry)) r ⌝ }
 {
     first_of(o, r) == 0

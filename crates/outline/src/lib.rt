@@ -1,8 +1,9 @@
 // Outlines: reading their records, checking them, and finding the record of a plate. A buyer calls `check` and `find`,
-// which ask nothing of the caller. The other public functions serve the crates above.
+// which ask nothing of the caller. `fields` is public for the crates above: a reader of a field requires that the record
+// is there.
 pub mod fields;
-pub mod finder;
-pub mod rules;
+mod finder;
+mod rules;
 pub mod verdict;
 
 pub use finder::find;

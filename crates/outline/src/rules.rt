@@ -2,7 +2,7 @@
 ghost use mathlib.Core.Path.{_≡_};
 ghost use Prim.Native.Nat.{_≤_};
 ghost use Rattle.outline.specs.Lists.{from, lowest};
-ghost use Rattle.outline.specs.Inner.{Recorded, breaks};
+ghost use Rattle.outline.specs.Inner.{IsRecord, breaks};
 ghost use Rattle.outline.specs.Outline.{size, records};
 ghost use Rattle.outline.specs.Rules.{badField, stray, naming, named, badLink, taxa, hasPlate, isDuplicate};
 use super::fields::branch_of;
@@ -21,7 +21,7 @@ pub enum Rule {
 
 // Whether the length, the price or the plate is outside its range.
 fn bad_field(o: &[u8], r: usize) -> bool
-    requires { ⌜ Recorded (now o) r ⌝ }
+    requires { ⌜ IsRecord (now o) r ⌝ }
     ensures { λ v. ⌜ v ≡ badField (now (o .entry)) r ⌝ }
 {
     let long = 1000000 < branch_of(o, r);
@@ -43,7 +43,7 @@ fn is_stray(o: &[u8], r: usize, link: usize) -> bool
 
 // How many of record r's two links hold q.
 fn naming_of(o: &[u8], q: usize, r: usize) -> usize
-    requires { ⌜ Recorded (now o) r ⌝ }
+    requires { ⌜ IsRecord (now o) r ⌝ }
     ensures { λ v. ⌜ v ≡ naming (now (o .entry)) q r ⌝ }
 {
     (next_of(o, r) == q) as usize + (first_of(o, r) == q) as usize
@@ -63,9 +63,9 @@ fn named_of(o: &[u8], q: usize) -> usize
     sum
 }
 
-// Whether a link of record r is stray, or record r is not named as it should be.
+// Whether a link of record r is stray, or it is record 1 and has a next, or it is another and is not named exactly once.
 fn bad_link(o: &[u8], r: usize) -> bool
-    requires { ⌜ Recorded (now o) r ⌝ }
+    requires { ⌜ IsRecord (now o) r ⌝ }
     ensures { λ v. ⌜ v ≡ badLink (now (o .entry)) r ⌝ }
 {
     let next = next_of(o, r);
@@ -93,7 +93,7 @@ pub fn taxa_of(o: &[u8]) -> usize
 
 // Whether record r is the taxon of a plate.
 fn has_plate(o: &[u8], plate: u32, r: usize) -> bool
-    requires { ⌜ Recorded (now o) r ⌝ }
+    requires { ⌜ IsRecord (now o) r ⌝ }
     ensures { λ v. ⌜ v ≡ hasPlate (now (o .entry)) plate r ⌝ }
 {
     is_taxon(o, r) & (plate_of(o, r) == plate)
@@ -116,14 +116,14 @@ pub fn holder_of(o: &[u8], plate: u32, n: usize) -> usize
 
 // Whether the plate of record r is already at an earlier taxon.
 fn is_duplicate(o: &[u8], r: usize) -> bool
-    requires { ⌜ Recorded (now o) r ⌝ }
+    requires { ⌜ IsRecord (now o) r ⌝ }
     ensures { λ v. ⌜ v ≡ isDuplicate (now (o .entry)) r ⌝ }
 {
     holder_of(o, plate_of(o, r), r - 1) != 0
 }
 
 fn is_broken(o: &[u8], rule: Rule, r: usize) -> bool
-    requires { ⌜ Recorded (now o) r ⌝ }
+    requires { ⌜ IsRecord (now o) r ⌝ }
     ensures { λ v. ⌜ v ≡ breaks (now (o .entry)) rule r ⌝ }
 {
     match rule {

@@ -1,21 +1,21 @@
 // Cases of the check.
-use super::page::blank;
-use super::page::comb;
-use super::page::one_record;
-use super::page::put;
-use super::page::star;
-use super::page::tree_a;
-use super::page::tree_a_with;
+use super::outlines::blank;
+use super::outlines::comb;
+use super::outlines::one_record;
+use super::outlines::put;
+use super::outlines::star;
+use super::outlines::tree_a;
+use super::outlines::tree_a_with;
 use super::show::changed;
 use super::show::check;
 use super::show::check_bytes;
 
 pub fn sizes() {
-    let page = one_record([0, 0, 5, 1, 7]);
-    check_bytes(b"0 bytes", &page, 0);
-    check_bytes(b"15 bytes", &page, 15);
-    check_bytes(b"16 bytes, one taxon", &page, 16);
-    check_bytes(b"17 bytes", &page, 17);
+    let buffer = one_record([0, 0, 5, 1, 7]);
+    check_bytes(b"0 bytes", &buffer, 0);
+    check_bytes(b"15 bytes", &buffer, 15);
+    check_bytes(b"16 bytes, one taxon", &buffer, 16);
+    check_bytes(b"17 bytes", &buffer, 17);
     check(b"127 records", &comb(127), 127);
     check(b"128 records", &comb(128), 128);
     check(b"64 taxa", &star(65), 65);
@@ -32,13 +32,14 @@ pub fn fields() {
     changed(b"price 65,535", 3, [4, 0, 4, 65535, 11]);
     changed(b"price 65,536", 3, [4, 0, 4, 65536, 11]);
     changed(b"taxon with plate 0", 3, [4, 0, 4, 3, 0]);
+    changed(b"plate 1", 3, [4, 0, 4, 3, 1]);
     changed(b"plate 16,777,216", 3, [4, 0, 4, 3, 16777216]);
     changed(b"plate 4,294,967,295", 3, [4, 0, 4, 3, 4294967295]);
     changed(b"group with a price", 2, [5, 3, 3, 1, 0]);
     changed(b"group with a plate", 2, [5, 3, 3, 0, 14]);
-    let mut page = tree_a_with(5, [0, 0, 5, 65536, 13]);
-    put(&mut page, 3, [4, 0, 4, 3, 0]);
-    check(b"bad fields in records 3 and 5", &page, 5);
+    let mut buffer = tree_a_with(5, [0, 0, 5, 65536, 13]);
+    put(&mut buffer, 3, [4, 0, 4, 3, 0]);
+    check(b"bad fields in records 3 and 5", &buffer, 5);
 }
 
 // A link names a later record. But for that each record here is named as it should be.
@@ -75,22 +76,30 @@ pub fn naming() {
     check(b"next of record 1 is 2", &two, 2);
     changed(b"record 4 not named", 3, [0, 0, 4, 3, 11]);
     changed(b"record 5 named by two nexts", 4, [5, 0, 2, 1, 12]);
-    let mut page = one_record([0, 2, 0, 0, 0]);
-    put(&mut page, 2, [3, 4, 0, 0, 0]);
-    put(&mut page, 3, [4, 0, 1, 1, 7]);
-    put(&mut page, 4, [0, 0, 1, 1, 8]);
-    check(b"record 4 named by a next and a first", &page, 4);
-    put(&mut page, 3, [0, 4, 1, 0, 0]);
-    check(b"record 4 named by two firsts", &page, 4);
-    put(&mut page, 2, [3, 3, 0, 0, 0]);
-    check(b"record 3 named by both links of one record", &page, 4);
+    let mut buffer = one_record([0, 2, 0, 0, 0]);
+    put(&mut buffer, 2, [3, 4, 0, 0, 0]);
+    put(&mut buffer, 3, [4, 0, 1, 1, 7]);
+    put(&mut buffer, 4, [0, 0, 1, 1, 8]);
+    check(b"record 4 named by a next and a first", &buffer, 4);
+    put(&mut buffer, 3, [0, 4, 1, 0, 0]);
+    check(b"record 4 named by two firsts", &buffer, 4);
+    put(&mut buffer, 2, [3, 3, 0, 0, 0]);
+    check(b"record 3 named by both links of one record", &buffer, 4);
+}
+
+// A heading may have a single member.
+pub fn single_members() {
+    let mut buffer = one_record([0, 2, 0, 0, 0]);
+    put(&mut buffer, 2, [0, 3, 7, 0, 0]);
+    put(&mut buffer, 3, [0, 0, 0, 2, 1]);
+    check(b"a chain of one member under each heading", &buffer, 3);
 }
 
 // The place is the lowest record at fault, by its own links or by being named wrongly.
 pub fn places() {
-    let mut page = tree_a_with(3, [0, 0, 4, 3, 11]);
-    put(&mut page, 5, [6, 0, 5, 2, 13]);
-    check(b"record 4 not named, next of record 5 is 6", &page, 5);
+    let mut buffer = tree_a_with(3, [0, 0, 4, 3, 11]);
+    put(&mut buffer, 5, [6, 0, 5, 2, 13]);
+    check(b"record 4 not named, next of record 5 is 6", &buffer, 5);
     let mut other = tree_a_with(2, [0, 3, 3, 0, 0]);
     put(&mut other, 4, [6, 0, 2, 1, 12]);
     check(b"next of record 4 is 6, record 5 not named", &other, 5);
@@ -101,9 +110,9 @@ pub fn places() {
 pub fn order() {
     check_bytes(b"part of a record after 128 records", &comb(128), 2049);
     check(b"128 records of zeros", &blank(), 128);
-    let mut page = tree_a_with(2, [5, 2, 3, 0, 0]);
-    put(&mut page, 5, [0, 0, 5, 2, 0]);
-    check(b"bad link in record 2, bad field in record 5", &page, 5);
+    let mut buffer = tree_a_with(2, [5, 2, 3, 0, 0]);
+    put(&mut buffer, 5, [0, 0, 5, 2, 0]);
+    check(b"bad link in record 2, bad field in record 5", &buffer, 5);
     let mut many = star(66);
     put(&mut many, 66, [67, 0, 0, 0, 66]);
     check(b"65 taxa, bad link in record 66", &many, 66);
@@ -130,17 +139,17 @@ pub fn plates_alike() {
     changed(b"plate like a length and a price", 3, [4, 0, 4, 3, 2]);
 }
 
-// Two groups whose members take turns: the text goes 1, 2, 4, 6, 3, 5, 7. The later of two plates alike is the one with
-// the higher record number, and not the one that comes later in the text.
+// Two groups whose members take turns: a record, then its members, then the rest of its chain go 1, 2, 4, 6, 3, 5, 7. The
+// later of two plates alike is the one with the higher record number, and not the one that comes later in that order.
 pub fn interleaved() {
-    let mut page = one_record([0, 2, 0, 0, 0]);
-    put(&mut page, 2, [3, 4, 1, 0, 0]);
-    put(&mut page, 3, [0, 5, 1, 0, 0]);
-    put(&mut page, 4, [6, 0, 1, 1, 21]);
-    put(&mut page, 5, [7, 0, 1, 1, 22]);
-    put(&mut page, 6, [0, 0, 1, 1, 23]);
-    put(&mut page, 7, [0, 0, 1, 1, 24]);
-    check(b"records not in the order of the text", &page, 7);
-    put(&mut page, 6, [0, 0, 1, 1, 22]);
-    check(b"the same, plate 22 at 5 and 6", &page, 7);
+    let mut buffer = one_record([0, 2, 0, 0, 0]);
+    put(&mut buffer, 2, [3, 4, 1, 0, 0]);
+    put(&mut buffer, 3, [0, 5, 1, 0, 0]);
+    put(&mut buffer, 4, [6, 0, 1, 1, 21]);
+    put(&mut buffer, 5, [7, 0, 1, 1, 22]);
+    put(&mut buffer, 6, [0, 0, 1, 1, 23]);
+    put(&mut buffer, 7, [0, 0, 1, 1, 24]);
+    check(b"records interleaved", &buffer, 7);
+    put(&mut buffer, 6, [0, 0, 1, 1, 22]);
+    check(b"the same, plate 22 at 5 and 6", &buffer, 7);
 }

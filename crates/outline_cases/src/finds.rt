@@ -1,19 +1,19 @@
 // Cases of finding a plate's record.
-use super::page::comb;
-use super::page::one_record;
-use super::page::star;
-use super::page::tree_a;
-use super::page::tree_a_with;
+use super::outlines::comb;
+use super::outlines::one_record;
+use super::outlines::star;
+use super::outlines::tree_a;
+use super::outlines::tree_a_with;
 use super::show::find;
 
 // In tree A first. Plate 0 is no taxon's, though it stands in the groups.
 pub fn in_accepted() {
-    let page = tree_a();
-    find(b"", &page, 80, 11);
-    find(b"", &page, 80, 12);
-    find(b"", &page, 80, 13);
-    find(b"", &page, 80, 99);
-    find(b"", &page, 80, 0);
+    let buffer = tree_a();
+    find(b"", &buffer, 80, 11);
+    find(b"", &buffer, 80, 12);
+    find(b"", &buffer, 80, 13);
+    find(b"", &buffer, 80, 99);
+    find(b"", &buffer, 80, 0);
     find(b" in one taxon", &one_record([0, 0, 5, 1, 7]), 16, 7);
     let highest = one_record([0, 0, 1000000, 65535, 4294967295]);
     find(b" in one taxon", &highest, 16, 4294967295);

@@ -3,7 +3,7 @@
 // and the fields of the record found: next, first, length, price, plate.
 mod checks;
 mod finds;
-mod page;
+mod outlines;
 mod show;
 
 fn main() {
@@ -12,6 +12,7 @@ fn main() {
     checks::links_to_later();
     checks::links_in_range();
     checks::naming();
+    checks::single_members();
     checks::places();
     checks::order();
     checks::plates_alike();

@@ -3,7 +3,7 @@ use Prim.Native.Nat.{ℕ, _+_, _-_, _≤_}
 use mathlib.Core.Path.{_≡_, refl, ap}
 use mathlib.Core.Logic.{_⊎_}
 use native.Mathlib.Omega.{arith}
-use Rattle.laws.proofs.Candidate.{Value, plus, charge, Cand, joinOf, chargeOf}
+use Rattle.laws.specs.Candidate.{Value, plus, charge, Cand, joinOf, chargeOf}
 use Rattle.laws.proofs.Order.{atleast-both, atleast-charge}
 use Rattle.laws.proofs.Best.{From, nothing, this, Covers, by, Best, best-one, best-either}
 use Rattle.rows.specs.Rows.{Row, betterRow, joinRow}
@@ -53,7 +53,7 @@ from-join v nothing q = nothing
 from-join v (this p k) nothing = nothing
 from-join v (this p k) (this {v = q} h l) = rw p (this (q, h, refl) (omega (arith, ap (λ (w : Value). w .cost) p)))
 
--- the row of v's sums is found from its columns up to b
+-- column b of v joined with a row is v together with a value of the row's column b - cost
 pub from-join-row : {Q : Value → Type 0} (v : Value) (x : Row) (b : ℕ) → From Q (b - v .cost) (x (b - v .cost)) → From (Shifted v Q) b (joinRow v x b)
 unfolding joinRow
 from-join-row v x b p = from-join v (best-one v b .is) p

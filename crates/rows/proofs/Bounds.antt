@@ -6,19 +6,21 @@ use native.Mathlib.Omega.{arith}
 use lib.Pow.{pow-mono}
 use Rattle.outline.specs.Lists.{pick, total}
 use Rattle.outline.specs.Outline.{size, next, first, branch, price, records, isTaxon}
-use Rattle.outline.specs.Rules.{taxa}
+use Rattle.outline.specs.Rules.{taxa, taxaIn}
 use Rattle.outline.specs.Verdict.{mostRecords, mostTaxa}
 use Rattle.outline.proofs.Kept.{Linked, Kept}
+use Rattle.laws.specs.Forest.{Forest, empty, node, sumIn, tree}
+use Rattle.laws.specs.Candidate.{Value, Cand}
+use Rattle.laws.specs.Numbers.{weight}
 use Rattle.laws.proofs.Sums.{total-ext, total-most}
-use Rattle.laws.proofs.Forest.{Forest, empty, node, sumIn, tree, tree-step, sum-part}
-use Rattle.laws.proofs.Candidate.{Value, Cand}
+use Rattle.laws.proofs.Forest.{tree-step, sum-part}
 use Rattle.laws.proofs.Best.{From, nothing, this, from-better, from-same}
-use Rattle.laws.proofs.Numbers.{taxaIn, weight, weights-below}
+use Rattle.laws.proofs.Numbers.{weights-below}
 use Rattle.rows.specs.Rows.{Row, betterRow, isLeaf, taxonRooted, cladeRow, pushed, rootedRow, crossRow}
 use Rattle.rows.proofs.BestRows.{from-charge, from-join-row}
 use Rattle.rows.proofs.Steps.{leaf-taxon}
 
--- at most d of diversity, and a code of at most m
+-- at most d of diversity, and a weigh of at most m
 pub record Small (d m : ℕ) (v : Value) : Type 0 where
   pub diversity-most : v .diversity ≤ d
   pub code-most : v .code ≤ m
@@ -35,39 +37,41 @@ abbrev pub branches : List ℕ → Forest → ℕ
 branches o F = sumIn (λ r f. branch o r) F
 
 abbrev pub codes : (ℕ → ℕ) → Forest → ℕ
-codes code F = sumIn (λ r f. pick (isLeaf f) (code r) 0) F
+codes weigh F = sumIn (λ r f. pick (isLeaf f) (weigh r) 0) F
 
-module _ (o : List ℕ) (code : ℕ → ℕ) where
-  clade-small : (r : ℕ) (f : Forest) (d m : ℕ) {x : Row} (g : Row) (b : ℕ) → SmallRow d m b x → From (Small (d + branches o f) (m + codes code f)) b (g b)
-      → From (Small (d + (branch o r + branches o f)) (m + (pick (isLeaf f) (code r) 0 + codes code f))) b (cladeRow o code r (isLeaf f) x g b)
+module _ (o : List ℕ) (weigh : ℕ → ℕ) where
+  clade-small : (r : ℕ) (f : Forest) (d m : ℕ) {x : Row} (g : Row) (b : ℕ) → SmallRow d m b x
+      → From (Small (d + branches o f) (m + codes weigh f)) b (g b)
+      → From (Small (d + (branch o r + branches o f)) (m + (pick (isLeaf f) (weigh r) 0 + codes weigh f))) b (cladeRow o weigh r (isLeaf f) x g b)
   unfolding cladeRow
   clade-small r empty d m {x} g b hx hg =
       from-same (λ v (q, s, e). rw e (record { diversity-most = omega arith; code-most = omega arith }))
-      (from-join-row (taxonRooted o code r) x b (hx (b - price o r) (omega arith)))
+      (from-join-row (taxonRooted o weigh r) x b (hx (b - price o r) (omega arith)))
   clade-small r (node s h n) d m g b hx hg =
       from-same (λ v (w, s, e). rw e (record { diversity-most = omega arith; code-most = omega arith })) (from-charge (branch o r) hg)
 
   -- pushing adds at most the forest's branches and codes
-  pub pushed-small : (F : Forest) (d m n : ℕ) {x : Row} → SmallRow d m n x → SmallRow (d + branches o F) (m + codes code F) n (pushed o code F x)
+  pub pushed-small : (F : Forest) (d m n : ℕ) {x : Row} → SmallRow d m n x → SmallRow (d + branches o F) (m + codes weigh F) n (pushed o weigh F x)
   unfolding pushed
   pushed-small empty d m n hx b l = nothing
   pushed-small (node r f k) d m n {x} hx b l =
       let y = pushed-small k d m n hx in
-      let follow : SmallRow (d + branches o k) (m + codes code k) n (betterRow x (pushed o code k x)) =
+      let follow : SmallRow (d + branches o k) (m + codes weigh k) n (betterRow x (pushed o weigh k x)) =
       λ i h. from-better (small-more _ _ (omega arith) (omega arith) (hx i h)) (y i h) in
       let z = clade-small r f _ _ _ b (λ i h. follow i (omega arith)) (pushed-small f _ _ n follow b l) in
       from-better (small-more _ _ (omega arith) (omega arith) z) (small-more _ _ (omega arith) (omega arith) (y b l))
 
-  pub rooted-small : (F : Forest) (b : ℕ) → From (Small (branches o F) (codes code F)) b (rootedRow o code F b)
+  pub rooted-small : (F : Forest) (b : ℕ) → From (Small (branches o F) (codes weigh F)) b (rootedRow o weigh F b)
   unfolding rootedRow
   rooted-small F b =
       small-more _ _ (omega arith) (omega arith)
       (pushed-small F 0 0 b (λ i l. this (record { diversity-most = omega arith; code-most = omega arith }) (omega arith)) b (omega arith))
 
-  pub cross-small : (r : ℕ) (f n : Forest) (b : ℕ) → From (Small (branches o (node r f n)) (codes code (node r f n))) b (crossRow o code r (isLeaf f) f n b)
+  pub cross-small : (r : ℕ) (f n : Forest) (b : ℕ)
+      → From (Small (branches o (node r f n)) (codes weigh (node r f n))) b (crossRow o weigh r (isLeaf f) f n b)
   unfolding crossRow
   cross-small r f n b =
-      let rest : SmallRow (branches o n) (codes code n) b (rootedRow o code n) = λ i l. rooted-small n i in
+      let rest : SmallRow (branches o n) (codes weigh n) b (rootedRow o weigh n) = λ i l. rooted-small n i in
       small-more _ _ (omega arith) (omega arith) (clade-small r f _ _ _ b rest (pushed-small f _ _ b rest b (omega arith)))
 
 -- the same by links, and against the sums over all records
@@ -78,40 +82,41 @@ module _ (o : List ℕ) (linked : Linked o) (r : ℕ) (u : r ≤ size o) where
   pub branches-step : 1 ≤ r → branches o (tree o r) ≡ branch o r + (branches o (tree o (first o r)) + branches o (tree o (next o r)))
   branches-step l = ap (branches o) (tree-step o linked r l u)
 
-module _ (o : List ℕ) (linked : Linked o) (code : ℕ → ℕ) (r : ℕ) (u : r ≤ size o) where
-  pub codes-most : codes code (tree o r) ≤ total (λ q. pick (isTaxon o q) (code q) 0) (records o)
+module _ (o : List ℕ) (linked : Linked o) (weigh : ℕ → ℕ) (r : ℕ) (u : r ≤ size o) where
+  pub codes-most : codes weigh (tree o r) ≤ total (λ q. pick (isTaxon o q) (weigh q) 0) (records o)
   unfolding records
   codes-most =
       omega (
         arith,
-        sum-part o linked (λ q f. pick (isLeaf f) (code q) 0) r u,
-        total-ext (λ q. pick (isLeaf (tree o (first o q))) (code q) 0) (λ q. pick (isTaxon o q) (code q) 0) 1 (size o)
-            (λ q l h. ap (λ t. pick t (code q) 0) (leaf-taxon o linked q l (omega arith))),
+        sum-part o linked (λ q f. pick (isLeaf f) (weigh q) 0) r u,
+        total-ext (λ q. pick (isLeaf (tree o (first o q))) (weigh q) 0) (λ q. pick (isTaxon o q) (weigh q) 0) 1 (size o)
+            (λ q l h. ap (λ t. pick t (weigh q) 0) (leaf-taxon o linked q l (omega arith))),
       )
 
   module _ (l : 1 ≤ r) where
-    pub codes-step : codes code (tree o r) ≡ pick (isTaxon o r) (code r) 0 + (codes code (tree o (first o r)) + codes code (tree o (next o r)))
-    codes-step = ap (codes code) (tree-step o linked r l u) ∙ rw (leaf-taxon o linked r l u)
+    pub codes-step : codes weigh (tree o r) ≡ pick (isTaxon o r) (weigh r) 0 + (codes weigh (tree o (first o r)) + codes weigh (tree o (next o r)))
+    codes-step = ap (codes weigh) (tree-step o linked r l u) ∙ rw (leaf-taxon o linked r l u)
 
--- a row that leaves room for all branches and codes of a forest, of d and m in all
-abbrev pub Leaves : List ℕ → (ℕ → ℕ) → ℕ → ℕ → Forest → ℕ → Row → Type 0
-Leaves o code d m F n x = SmallRow (d - branches o F) (m - codes code F) n x
+-- the row's candidates stay small enough, below d and m, for all branches and codes of a forest to be added
+abbrev pub HasRoom : List ℕ → (ℕ → ℕ) → ℕ → ℕ → Forest → ℕ → Row → Type 0
+HasRoom o weigh d m F n x = SmallRow (d - branches o F) (m - codes weigh F) n x
 
--- where the row that follows r's chain leaves room for the chain, so does what is pushed through the chain's parts
-module _ (o : List ℕ) (linked : Linked o) (code : ℕ → ℕ) (r : ℕ) (u : r ≤ size o) (l : 1 ≤ r)
-    (d m : ℕ) (hd : branches o (tree o r) ≤ d) (hm : codes code (tree o r) ≤ m) (n : ℕ) {x : Row} (room : Leaves o code d m (tree o r) n x) where
-  pub rest-room : Leaves o code d m (tree o (next o r)) n x
-  rest-room b h = small-more _ _ (omega (arith, branches-step o linked r u l)) (omega (arith, codes-step o linked code r u l)) (room b h)
+-- where what may follow r's chain has room for the chain: so has what may follow the rest of the chain, and what may follow
+-- r's clade has room for r's members; and what is pushed through the chain is below d and m
+module _ (o : List ℕ) (linked : Linked o) (weigh : ℕ → ℕ) (r : ℕ) (u : r ≤ size o) (l : 1 ≤ r)
+    (d m : ℕ) (hd : branches o (tree o r) ≤ d) (hm : codes weigh (tree o r) ≤ m) (n : ℕ) {x : Row} (room : HasRoom o weigh d m (tree o r) n x) where
+  pub rest-has-room : HasRoom o weigh d m (tree o (next o r)) n x
+  rest-has-room b h = small-more _ _ (omega (arith, branches-step o linked r u l)) (omega (arith, codes-step o linked weigh r u l)) (room b h)
 
-  pub follow-room : Leaves o code (d - branch o r) (m - pick (isTaxon o r) (code r) 0) (tree o (first o r)) n (betterRow x (pushed o code (tree o (next o r)) x))
-  follow-room b h =
+  pub follow-has-room : HasRoom o weigh (d - branch o r) (m - pick (isTaxon o r) (weigh r) 0) (tree o (first o r)) n (betterRow x (pushed o weigh (tree o (next o r)) x))
+  follow-has-room b h =
       let ds = branches-step o linked r u l in
-      let ms = codes-step o linked code r u l in
+      let ms = codes-step o linked weigh r u l in
       from-better (small-more _ _ (omega arith) (omega arith) (room b h))
-      (small-more _ _ (omega arith) (omega arith) (pushed-small o code (tree o (next o r)) _ _ n room b h))
+      (small-more _ _ (omega arith) (omega arith) (pushed-small o weigh (tree o (next o r)) _ _ n room b h))
 
-  pub pushed-room : SmallRow d m n (pushed o code (tree o r) x)
-  pushed-room b h = small-more _ _ (omega arith) (omega arith) (pushed-small o code (tree o r) _ _ n room b h)
+  pub pushed-fits-room : SmallRow d m n (pushed o weigh (tree o r) x)
+  pushed-fits-room b h = small-more _ _ (omega arith) (omega arith) (pushed-small o weigh (tree o r) _ _ n room b h)
 
 -- what an accepted outline allows: 127 records with branches of a million, 64 taxa
 module _ (o : List ℕ) (kept : Kept o) (r : ℕ) (u : r ≤ size o) where

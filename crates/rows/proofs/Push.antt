@@ -8,13 +8,14 @@ use native.Mathlib.Omega.{arith}
 use borrow.Author.Tests.{eq-eqb}
 use Rattle.outline.specs.Outline.{branch, price}
 use Rattle.outline.specs.Lists.{one}
-use Rattle.laws.proofs.Forest.{Forest, empty, node, countIn}
-use Rattle.laws.proofs.Candidate.{Value, plus, charge, nothingWorth, Cand, betterOf}
+use Rattle.laws.specs.Forest.{Forest, empty, node, countIn}
+use Rattle.laws.specs.Candidate.{Value, plus, charge, nothingWorth, Cand, betterOf}
 use Rattle.laws.proofs.Order.{value-path, plus-comm, plus-assoc, plus-charge}
 use Rattle.laws.proofs.Best.{Best, best-same, best-unique, best-none, best-nothing, best-one, best-either}
 use Rattle.rows.specs.Rows.{Row, isLeaf, taxonRooted, taxonUnrooted, cladeRow, pushed, rootedRow, aloneRow, crossRow, singleRow, acrossRow}
 use Rattle.rows.proofs.BestRows.{BestRow, Plus, best-charge, row-either, best-join-row}
-use Rattle.rows.proofs.Sets.{Sets, Splits, Parts, sets-empty, rootedWorth, unrootedWorth, rooted-splits, unrooted-splits, sets-parted, sets-joined, rooted-taxon, unrooted-taxon, rooted-group, unrooted-group}
+use Rattle.rows.proofs.Sets.{WorthOfSet, Splits, Parts, sets-empty, rootedWorth, unrootedWorth, rooted-splits, unrooted-splits}
+use Rattle.rows.proofs.Sets.{sets-parted, sets-joined, rooted-taxon, unrooted-taxon, rooted-group, unrooted-group}
 
 -- each record once
 abbrev pub Once : Forest → Type 0
@@ -23,21 +24,21 @@ Once F = (t : ℕ) → countIn t F ≤ 1
 not-below : (r : ℕ) (f n : Forest) → Once (node r f n) → countIn r f ≡ 0
 not-below r f n once = omega (arith, once r, ap one (eq-eqb r r refl))
 
-module _ (o : List ℕ) (code : ℕ → ℕ) where
+module _ (o : List ℕ) (weigh : ℕ → ℕ) where
   abbrev pub Rooted : Forest → Value → Type 0
-  Rooted F v = Sets (rootedWorth o code) F v
+  Rooted F v = WorthOfSet (rootedWorth o weigh) F v
 
   -- a clade, and what follows it
   clade-best : (r : ℕ) (f : Forest) → countIn r f ≡ 0 → {X : Value → Type 0} {x g : Row} (n : ℕ)
-      → BestRow X n x → BestRow (Plus (Rooted f) X) n g → BestRow (Plus (Rooted (node r f empty)) X) n (cladeRow o code r (isLeaf f) x g)
+      → BestRow X n x → BestRow (Plus (Rooted f) X) n g → BestRow (Plus (Rooted (node r f empty)) X) n (cladeRow o weigh r (isLeaf f) x g)
   unfolding cladeRow
   clade-best r empty apart n hx hg b l =
       best-same
-      (λ v (q, h, e). (taxonRooted o code r, q, rooted-taxon o code r _ .1 refl, h, e))
-      (λ v (p, q, h, k, e). (q, k, e ∙ ap (λ p. plus p q) (rooted-taxon o code r p .0 h)))
-      (best-join-row (taxonRooted o code r) _ b (hx (b - price o r) (omega arith)))
+      (λ v (q, h, e). (taxonRooted o weigh r, q, rooted-taxon o weigh r _ .1 refl, h, e))
+      (λ v (p, q, h, k, e). (q, k, e ∙ ap (λ p. plus p q) (rooted-taxon o weigh r p .0 h)))
+      (best-join-row (taxonRooted o weigh r) _ b (hx (b - price o r) (omega arith)))
   clade-best r (node s g m) apart n hx hg b l =
-      let group = rooted-group o code r (node s g m) refl apart in
+      let group = rooted-group o weigh r (node s g m) refl apart in
       best-same
       (λ v (w, (p, q, h, k, d), e). (charge p (branch o r), q, group _ .1 (p, h, refl), k, e ∙ ap (λ w. charge w (branch o r)) d ∙ sym (plus-charge p q (branch o r))))
       (λ v (p, q, h, k, e).
@@ -51,21 +52,22 @@ module _ (o : List ℕ) (code : ℕ → ℕ) where
     Pushed = Plus (Rooted (node r f empty)) (λ w. X w ⊎ Plus (Rooted n) X w) v ⊎ Plus (Rooted n) X v
 
     to-pushed : Plus (Rooted (node r f n)) X v → Pushed
-    to-pushed (p, q, h, k, e) = go (sets-parted o code (rooted-splits o code) r f n p h)
+    to-pushed (p, q, h, k, e) = go (sets-parted o weigh (rooted-splits o weigh) r f n p h)
       where
-        go : Parts o code (rootedWorth o code) r f n p → Pushed
+        go : Parts o weigh (rootedWorth o weigh) r f n p → Pushed
         go (inl (inl c)) = inl (p, q, c, inl k, e)
         go (inl (inr d)) = inr (p, q, d, k, e)
         go (inr (c, d, i, j, s)) = inl (c, plus d q, i, inr (d, q, j, k, refl), e ∙ ap (λ p. plus p q) s ∙ plus-assoc c d q)
 
     of-pushed : Pushed → Plus (Rooted (node r f n)) X v
-    of-pushed (inl (p, q, h, inl k, e)) = (p, q, sets-joined o code (rooted-splits o code) r f n once p (inl (inl h)), k, e)
+    of-pushed (inl (p, q, h, inl k, e)) = (p, q, sets-joined o weigh (rooted-splits o weigh) r f n once p (inl (inl h)), k, e)
     of-pushed (inl (p, q, h, inr (d, x, j, k, s), e)) =
-        (plus p d, x, sets-joined o code (rooted-splits o code) r f n once _ (inr (p, d, h, j, refl)), k, e ∙ ap (plus p) s ∙ sym (plus-assoc p d x))
-    of-pushed (inr (p, q, h, k, e)) = (p, q, sets-joined o code (rooted-splits o code) r f n once p (inl (inr h)), k, e)
+        (plus p d, x, sets-joined o weigh (rooted-splits o weigh) r f n once _ (inr (p, d, h, j, refl)), k, e ∙ ap (plus p) s ∙ sym (plus-assoc p d x))
+    of-pushed (inr (p, q, h, k, e)) = (p, q, sets-joined o weigh (rooted-splits o weigh) r f n once p (inl (inr h)), k, e)
 
   -- pushing x through a forest gives the best of a set of the forest together with a value of X
-  pub pushed-best : (F : Forest) → Once F → {X : Value → Type 0} {x : Row} (n : ℕ) → BestRow X n x → BestRow (Plus (Rooted F) X) n (pushed o code F x)
+  pub pushed-best : (F : Forest) → Once F → {X : Value → Type 0} {x : Row} (n : ℕ) → BestRow X n x
+      → BestRow (Plus (Rooted F) X) n (pushed o weigh F x)
   unfolding pushed
   pushed-best empty once n hx b l = best-none (λ v (p, q, h, k, e). sets-empty h)
   pushed-best (node r f m) once {X} n hx b l =
@@ -78,7 +80,7 @@ module _ (o : List ℕ) (code : ℕ → ℕ) where
   plus-nothing : (v : Value) → plus v nothingWorth ≡ v
   plus-nothing v = value-path (omega arith) (omega arith) (omega arith)
 
-  pub rooted-best : (F : Forest) → Once F → (b : ℕ) → Best (Rooted F) b (rootedRow o code F b)
+  pub rooted-best : (F : Forest) → Once F → (b : ℕ) → Best (Rooted F) b (rootedRow o weigh F b)
   unfolding rootedRow
   rooted-best F once b =
       best-same
@@ -87,37 +89,37 @@ module _ (o : List ℕ) (code : ℕ → ℕ) where
       (pushed-best F once b (λ i l. best-nothing i) b (omega arith))
 
   module _ (r : ℕ) (f n : Forest) (once : Once (node r f n)) (b : ℕ) where
-    cross-best : Best (Plus (Rooted (node r f empty)) (Rooted n)) b (crossRow o code r (isLeaf f) f n b)
+    cross-best : Best (Plus (Rooted (node r f empty)) (Rooted n)) b (crossRow o weigh r (isLeaf f) f n b)
     unfolding crossRow
     cross-best =
-        let rest : BestRow (Rooted n) b (rootedRow o code n) = λ i l. rooted-best n (λ t. omega (arith, once t)) i in
+        let rest : BestRow (Rooted n) b (rootedRow o weigh n) = λ i l. rooted-best n (λ t. omega (arith, once t)) i in
         clade-best r f (not-below r f n once) b rest (pushed-best f (λ t. omega (arith, once t)) b rest) b (omega arith)
 
     -- a chain, by its first clade, its rest, and both together
-    chain-best : {worth : (ℕ → Bool) → Forest → Value} → Splits o code worth → {c d : Cand}
-        → Best (Sets worth (node r f empty)) b c → Best (Sets worth n) b d
-        → Best (Sets worth (node r f n)) b (betterOf (betterOf c d) (crossRow o code r (isLeaf f) f n b))
-    chain-best splits p q = best-same (sets-joined o code splits r f n once) (sets-parted o code splits r f n) (best-either (best-either p q) cross-best)
+    chain-best : {worth : (ℕ → Bool) → Forest → Value} → Splits o weigh worth → {c d : Cand}
+        → Best (WorthOfSet worth (node r f empty)) b c → Best (WorthOfSet worth n) b d
+        → Best (WorthOfSet worth (node r f n)) b (betterOf (betterOf c d) (crossRow o weigh r (isLeaf f) f n b))
+    chain-best splits p q = best-same (sets-joined o weigh splits r f n once) (sets-parted o weigh splits r f n) (best-either (best-either p q) cross-best)
 
-  alone-best : (r : ℕ) (f : Forest) → countIn r f ≡ 0 → (b : ℕ) → Best (Rooted f) b (rootedRow o code f b)
-      → Best (Rooted (node r f empty)) b (aloneRow o code r (isLeaf f) f b)
+  alone-best : (r : ℕ) (f : Forest) → countIn r f ≡ 0 → (b : ℕ) → Best (Rooted f) b (rootedRow o weigh f b)
+      → Best (Rooted (node r f empty)) b (aloneRow o weigh r (isLeaf f) f b)
   unfolding aloneRow
-  alone-best r empty apart b h = best-same (λ v. rooted-taxon o code r v .1) (λ v. rooted-taxon o code r v .0) (best-one (taxonRooted o code r) b)
+  alone-best r empty apart b h = best-same (λ v. rooted-taxon o weigh r v .1) (λ v. rooted-taxon o weigh r v .0) (best-one (taxonRooted o weigh r) b)
   alone-best r (node s g m) apart b h =
-      let group = rooted-group o code r (node s g m) refl apart in
+      let group = rooted-group o weigh r (node s g m) refl apart in
       best-same (λ v. group v .1) (λ v. group v .0) (best-charge (branch o r) h)
 
   -- the rooted row of a chain from its parts
   pub rooted-chain : (r : ℕ) (f n : Forest) → Once (node r f n) → (b : ℕ)
-      → rootedRow o code (node r f n) b ≡ betterOf (betterOf (aloneRow o code r (isLeaf f) f b) (rootedRow o code n b)) (crossRow o code r (isLeaf f) f n b)
+      → rootedRow o weigh (node r f n) b ≡ betterOf (betterOf (aloneRow o weigh r (isLeaf f) f b) (rootedRow o weigh n b)) (crossRow o weigh r (isLeaf f) f n b)
   rooted-chain r f n once b =
       best-unique (rooted-best (node r f n) once b)
-      (chain-best r f n once b (rooted-splits o code)
+      (chain-best r f n once b (rooted-splits o weigh)
       (alone-best r f (not-below r f n once) b (rooted-best f (λ t. omega (arith, once t)) b)) (rooted-best n (λ t. omega (arith, once t)) b))
 
   -- a clade with the rest of its chain, either pushed over the other
   pub cross-swapped : (r : ℕ) (f n : Forest) → Once (node r f n) → (b : ℕ)
-      → crossRow o code r (isLeaf f) f n b ≡ pushed o code n (aloneRow o code r (isLeaf f) f) b
+      → crossRow o weigh r (isLeaf f) f n b ≡ pushed o weigh n (aloneRow o weigh r (isLeaf f) f) b
   cross-swapped r f n once b =
       best-unique (cross-best r f n once b)
       (best-same swap swap
@@ -128,22 +130,22 @@ module _ (o : List ℕ) (code : ℕ → ℕ) where
       swap v (p, q, h, k, e) = (q, p, k, h, e ∙ plus-comm p q)
 
   abbrev pub Unrooted : Forest → Value → Type 0
-  Unrooted F v = Sets (unrootedWorth o code) F v
+  Unrooted F v = WorthOfSet (unrootedWorth o weigh) F v
 
   single-best : (r : ℕ) (f : Forest) → countIn r f ≡ 0 → (b : ℕ) {c : Cand} → Best (Unrooted f) b c
-      → Best (Unrooted (node r f empty)) b (betterOf (singleRow o code r (isLeaf f) b) c)
+      → Best (Unrooted (node r f empty)) b (betterOf (singleRow o weigh r (isLeaf f) b) c)
   unfolding singleRow betterOf
   single-best r empty apart b h =
-      best-same (λ v. ⊎-elim (unrooted-taxon o code r v .1) (λ x. absurd (sets-empty x))) (λ v x. inl (unrooted-taxon o code r v .0 x))
-      (best-either (best-one (taxonUnrooted o code r) b) h)
+      best-same (λ v. ⊎-elim (unrooted-taxon o weigh r v .1) (λ x. absurd (sets-empty x))) (λ v x. inl (unrooted-taxon o weigh r v .0 x))
+      (best-either (best-one (taxonUnrooted o weigh r) b) h)
   single-best r (node s g m) apart b h =
-      let group = unrooted-group o code r (node s g m) refl apart in
+      let group = unrooted-group o weigh r (node s g m) refl apart in
       best-same (λ v. group v .1) (λ v. group v .0) h
 
   -- the unrooted row holds the best of a set of the forest
-  pub across-best : (F : Forest) → Once F → (b : ℕ) → Best (Unrooted F) b (acrossRow o code F b)
+  pub across-best : (F : Forest) → Once F → (b : ℕ) → Best (Unrooted F) b (acrossRow o weigh F b)
   unfolding acrossRow
   across-best empty once b = best-none (λ v. sets-empty)
   across-best (node r f n) once b =
-      chain-best r f n once b (unrooted-splits o code)
+      chain-best r f n once b (unrooted-splits o weigh)
       (single-best r f (not-below r f n once) b (across-best f (λ t. omega (arith, once t)) b)) (across-best n (λ t. omega (arith, once t)) b)

@@ -9,10 +9,10 @@ use lib.Dec.{eqb}
 use borrow.Author.Tests.{eq-eqb}
 use Rattle.outline.specs.Lists.{pick, one}
 use Rattle.outline.specs.Outline.{branch, price}
+use Rattle.laws.specs.Forest.{Forest, empty, node, sumIn, countIn, isGroup}
+use Rattle.laws.specs.Candidate.{Value, plus, charge}
 use Rattle.laws.proofs.Sums.{one-true, one-false, positive, positive-true}
-use Rattle.laws.proofs.Forest.{Forest, empty, node, sumIn, countIn}
-use Rattle.laws.proofs.Measures.{chosenIn, isGroup, groupsIn, weightIn, costIn, rootedIn, across, unrootedIn, rooted-quiet, weight-quiet}
-use Rattle.laws.proofs.Candidate.{Value, plus, charge}
+use Rattle.laws.proofs.Measures.{chosenIn, groupsIn, weightIn, costIn, rootedIn, across, unrootedIn, rooted-quiet, weight-quiet}
 use Rattle.laws.proofs.Order.{value-path}
 use Rattle.rows.specs.Rows.{taxonRooted, taxonUnrooted}
 use Rattle.rows.proofs.BestRows.{Charged, Plus}
@@ -60,17 +60,17 @@ pub merged-out : (p q : ℕ → Bool) (F G : Forest) → ((t : ℕ) → countIn 
 merged-out p q F G apart t h = let z : countIn t F ≡ 0 = omega (arith, apart t) in rw z
 
 -- a non-empty set of taxa of F, and v what it is worth there
-pub record Sets (worth : (ℕ → Bool) → Forest → Value) (F : Forest) (v : Value) : Type 0 where
+pub record WorthOfSet (worth : (ℕ → Bool) → Forest → Value) (F : Forest) (v : Value) : Type 0 where
   pub set : ℕ → Bool
   pub taxa : groupsIn set F ≡ 0
   pub some : 0 < chosenIn set F
   pub is : v ≡ worth set F
 
-pub sets-empty : {worth : (ℕ → Bool) → Forest → Value} {v : Value} → Sets worth empty v → ⊥
+pub sets-empty : {worth : (ℕ → Bool) → Forest → Value} {v : Value} → WorthOfSet worth empty v → ⊥
 sets-empty x = omega (arith, x .some)
 
-abbrev pub nobody : ℕ → Bool
-nobody t = false
+abbrev pub noRecord : ℕ → Bool
+noRecord t = false
 
 pub sum-zero : (F : Forest) → sumIn (λ r f. 0) F ≡ 0
 sum-zero empty = refl
@@ -90,12 +90,12 @@ across-both a zero x y z g h = absurd (omega arith)
 across-both zero (suc b) x y z g h = absurd (omega arith)
 across-both (suc a) (suc b) x y z g h = refl
 
-module _ (o : List ℕ) (code : ℕ → ℕ) where
+module _ (o : List ℕ) (weigh : ℕ → ℕ) where
   abbrev pub rootedWorth : (ℕ → Bool) → Forest → Value
-  rootedWorth p F = record { diversity = rootedIn o p F; cost = costIn o p F; code = weightIn code p F }
+  rootedWorth p F = record { diversity = rootedIn o p F; cost = costIn o p F; code = weightIn weigh p F }
 
   abbrev pub unrootedWorth : (ℕ → Bool) → Forest → Value
-  unrootedWorth p F = record { diversity = unrootedIn o p F; cost = costIn o p F; code = weightIn code p F }
+  unrootedWorth p F = record { diversity = unrootedIn o p F; cost = costIn o p F; code = weightIn weigh p F }
 
   -- what a set is worth in a chain, by what it is worth in the first clade and in the rest
   pub record Splits (worth : (ℕ → Bool) → Forest → Value) : Type 0 where
@@ -108,31 +108,31 @@ module _ (o : List ℕ) (code : ℕ → ℕ) where
 
   pub rooted-splits : Splits rootedWorth
   rooted-splits = record {
-    agree = λ p q F a. value-path (rooted-agree p q o F a) (weight-agree p q (price o) F a) (weight-agree p q code F a);
+    agree = λ p q F a. value-path (rooted-agree p q o F a) (weight-agree p q (price o) F a) (weight-agree p q weigh F a);
     clade-only = λ p r f n z.
-        value-path (omega (arith, rooted-quiet o p n z)) (omega (arith, weight-quiet p (price o) n z)) (omega (arith, weight-quiet p code n z));
+        value-path (omega (arith, rooted-quiet o p n z)) (omega (arith, weight-quiet p (price o) n z)) (omega (arith, weight-quiet p weigh n z));
     rest-only = λ p r f n z h. let C = node r f empty in
-        value-path (omega (arith, rooted-quiet o p C z)) (omega (arith, weight-quiet p (price o) C z)) (omega (arith, weight-quiet p code C z));
+        value-path (omega (arith, rooted-quiet o p C z)) (omega (arith, weight-quiet p (price o) C z)) (omega (arith, weight-quiet p weigh C z));
     both = λ p r f n g h. value-path (omega arith) (omega arith) (omega arith);
   }
 
   pub unrooted-splits : Splits unrootedWorth
   unrooted-splits = record {
-    agree = λ p q F a. value-path (unrooted-agree p q o F a) (weight-agree p q (price o) F a) (weight-agree p q code F a);
+    agree = λ p q F a. value-path (unrooted-agree p q o F a) (weight-agree p q (price o) F a) (weight-agree p q weigh F a);
     clade-only = λ p r f n z.
-        value-path (across-members _ _ _ _ _ z) (omega (arith, weight-quiet p (price o) n z)) (omega (arith, weight-quiet p code n z));
+        value-path (across-members _ _ _ _ _ z) (omega (arith, weight-quiet p (price o) n z)) (omega (arith, weight-quiet p weigh n z));
     rest-only = λ p r f n z h. let C = node r f empty in
-        value-path (across-rest _ _ _ _ _ (omega arith) h) (omega (arith, weight-quiet p (price o) C z)) (omega (arith, weight-quiet p code C z));
+        value-path (across-rest _ _ _ _ _ (omega arith) h) (omega (arith, weight-quiet p (price o) C z)) (omega (arith, weight-quiet p weigh C z));
     both = λ p r f n g h. value-path (across-both _ _ _ _ _ (omega arith) h ∙ omega arith) (omega arith) (omega arith);
   }
 
   -- the sets of a chain's parts: of the first clade, of the rest, or one of each
   abbrev pub Parts : ((ℕ → Bool) → Forest → Value) → ℕ → Forest → Forest → Value → Type 0
-  Parts worth r f n v = (Sets worth (node r f empty) v ⊎ Sets worth n v) ⊎ Plus (Sets rootedWorth (node r f empty)) (Sets rootedWorth n) v
+  Parts worth r f n v = (WorthOfSet worth (node r f empty) v ⊎ WorthOfSet worth n v) ⊎ Plus (WorthOfSet rootedWorth (node r f empty)) (WorthOfSet rootedWorth n) v
 
   module _ {worth : (ℕ → Bool) → Forest → Value} (splits : Splits worth) (r : ℕ) (f n : Forest) where
     -- a set of the chain is one of its parts
-    pub sets-parted : (v : Value) → Sets worth (node r f n) v → Parts worth r f n v
+    pub sets-parted : (v : Value) → WorthOfSet worth (node r f n) v → Parts worth r f n v
     sets-parted v x = cases (chosenIn (x .set) (node r f empty)) (chosenIn (x .set) n) refl refl
       where
         cases : (a b : ℕ) → chosenIn (x .set) (node r f empty) ≡ a → chosenIn (x .set) n ≡ b → Parts worth r f n v
@@ -160,7 +160,7 @@ module _ (o : List ℕ) (code : ℕ → ℕ) where
       rest-chosen p q = chosen-agree (merged p q n) q n (merged-in p q n)
 
       merge : {v : Value} (p q : ℕ → Bool) → groupsIn p (node r f empty) ≡ 0 → groupsIn q n ≡ 0 → 0 < chosenIn p (node r f empty) + chosenIn q n
-          → v ≡ worth (merged p q n) (node r f n) → Sets worth (node r f n) v
+          → v ≡ worth (merged p q n) (node r f n) → WorthOfSet worth (node r f n) v
       merge p q g h k e = record {
         set = merged p q n;
         taxa = omega (arith, groups-agree (merged p q n) p (node r f empty) (in-clade p q), groups-agree (merged p q n) q n (merged-in p q n));
@@ -169,17 +169,17 @@ module _ (o : List ℕ) (code : ℕ → ℕ) where
       }
 
       -- and these are sets of the chain
-      pub sets-joined : (v : Value) → Parts worth r f n v → Sets worth (node r f n) v
+      pub sets-joined : (v : Value) → Parts worth r f n v → WorthOfSet worth (node r f n) v
       sets-joined v (inl (inl x)) =
           let p = x .set in
-          merge p nobody (x .taxa) (sum-zero n) (omega arith)
-          (x .is ∙ sym (splits .agree _ p (node r f empty) (in-clade p nobody)) ∙ sym (splits .clade-only (merged p nobody n) r f n (rest-chosen p nobody ∙ sum-zero n)))
+          merge p noRecord (x .taxa) (sum-zero n) (omega arith)
+          (x .is ∙ sym (splits .agree _ p (node r f empty) (in-clade p noRecord)) ∙ sym (splits .clade-only (merged p noRecord n) r f n (rest-chosen p noRecord ∙ sum-zero n)))
       sets-joined v (inl (inr x)) =
           let q = x .set in
           let none = sum-zero (node r f empty) in
-          merge nobody q none (x .taxa) (omega arith)
-          (x .is ∙ sym (splits .agree _ q n (merged-in nobody q n))
-          ∙ sym (splits .rest-only (merged nobody q n) r f n (clade-chosen nobody q ∙ none) (omega (arith, rest-chosen nobody q))))
+          merge noRecord q none (x .taxa) (omega arith)
+          (x .is ∙ sym (splits .agree _ q n (merged-in noRecord q n))
+          ∙ sym (splits .rest-only (merged noRecord q n) r f n (clade-chosen noRecord q ∙ none) (omega (arith, rest-chosen noRecord q))))
       sets-joined v (inr (a, b, x, y, e)) =
           let p = x .set in
           let q = y .set in
@@ -192,28 +192,23 @@ module _ (o : List ℕ) (code : ℕ → ℕ) where
   taxon-chosen : (p : ℕ → Bool) (r : ℕ) → 0 < chosenIn p (node r empty empty) → p r ≡ true
   taxon-chosen p r h = one-true (p r) (omega arith)
 
-  taxon-rooted : (p : ℕ → Bool) (r : ℕ) → p r ≡ true → rootedWorth p (node r empty empty) ≡ taxonRooted o code r
-  taxon-rooted p r e = rw e (value-path (omega arith) (omega arith) (omega arith))
+  everyRecord : ℕ → Bool
+  everyRecord t = true
 
-  taxon-unrooted : (p : ℕ → Bool) (r : ℕ) → p r ≡ true → unrootedWorth p (node r empty empty) ≡ taxonUnrooted o code r
-  taxon-unrooted p r e = rw e (value-path (omega arith) (omega arith) (omega arith))
-
-  everybody : ℕ → Bool
-  everybody t = true
-
-  pub rooted-taxon : (r : ℕ) (v : Value) → Sets rootedWorth (node r empty empty) v ↔ (v ≡ taxonRooted o code r)
-  unfolding everybody
-  rooted-taxon r v = (
-    λ x. x .is ∙ taxon-rooted (x .set) r (taxon-chosen (x .set) r (x .some)),
-    λ e. record { set = everybody; taxa = refl; some = omega arith; is = e ∙ sym (taxon-rooted everybody r refl) },
+  -- whatever worth it has with the taxon chosen
+  taxon-only : {worth : (ℕ → Bool) → Forest → Value} (r : ℕ) (w : Value) → ((p : ℕ → Bool) → p r ≡ true → worth p (node r empty empty) ≡ w)
+      → (v : Value) → WorthOfSet worth (node r empty empty) v ↔ (v ≡ w)
+  unfolding everyRecord
+  taxon-only r w is v = (
+    λ x. x .is ∙ is (x .set) (taxon-chosen (x .set) r (x .some)),
+    λ e. record { set = everyRecord; taxa = refl; some = omega arith; is = e ∙ sym (is everyRecord refl) },
   )
 
-  pub unrooted-taxon : (r : ℕ) (v : Value) → Sets unrootedWorth (node r empty empty) v ↔ (v ≡ taxonUnrooted o code r)
-  unfolding everybody
-  unrooted-taxon r v = (
-    λ x. x .is ∙ taxon-unrooted (x .set) r (taxon-chosen (x .set) r (x .some)),
-    λ e. record { set = everybody; taxa = refl; some = omega arith; is = e ∙ sym (taxon-unrooted everybody r refl) },
-  )
+  pub rooted-taxon : (r : ℕ) (v : Value) → WorthOfSet rootedWorth (node r empty empty) v ↔ (v ≡ taxonRooted o weigh r)
+  rooted-taxon r = taxon-only r (taxonRooted o weigh r) (λ p e. rw e (value-path (omega arith) (omega arith) (omega arith)))
+
+  pub unrooted-taxon : (r : ℕ) (v : Value) → WorthOfSet unrootedWorth (node r empty empty) v ↔ (v ≡ taxonUnrooted o weigh r)
+  unrooted-taxon r = taxon-only r (taxonUnrooted o weigh r) (λ p e. rw e (value-path (omega arith) (omega arith) (omega arith)))
 
   -- a clade that is a group has the sets of its members, charged with its branch
   module _ (r : ℕ) (f : Forest) (group : isGroup f ≡ true) (apart : countIn r f ≡ 0) where
@@ -229,47 +224,47 @@ module _ (o : List ℕ) (code : ℕ → ℕ) where
 
     -- p among the members, and nothing else
     module _ (p : ℕ → Bool) where
-      outside : merged nobody p f r ≡ false
+      outside : merged noRecord p f r ≡ false
       outside = rw apart
 
-      members-chosen : chosenIn (merged nobody p f) f ≡ chosenIn p f
-      members-chosen = chosen-agree (merged nobody p f) p f (merged-in nobody p f)
+      members-chosen : chosenIn (merged noRecord p f) f ≡ chosenIn p f
+      members-chosen = chosen-agree (merged noRecord p f) p f (merged-in noRecord p f)
 
       lift : {worth : (ℕ → Bool) → Forest → Value} {v : Value} → groupsIn p f ≡ 0 → 0 < chosenIn p f
-          → v ≡ worth (merged nobody p f) (node r f empty) → Sets worth (node r f empty) v
+          → v ≡ worth (merged noRecord p f) (node r f empty) → WorthOfSet worth (node r f empty) v
       lift g h e = record {
-        set = merged nobody p f;
-        taxa = omega (arith, groups-agree (merged nobody p f) p f (merged-in nobody p f), ap (λ b. one (b && isGroup f)) outside);
+        set = merged noRecord p f;
+        taxa = omega (arith, groups-agree (merged noRecord p f) p f (merged-in noRecord p f), ap (λ b. one (b && isGroup f)) outside);
         some = omega (arith, members-chosen);
         is = e;
       }
 
-    pub rooted-group : (v : Value) → Sets rootedWorth (node r f empty) v ↔ Charged (Sets rootedWorth f) (branch o r) v
+    pub rooted-group : (v : Value) → WorthOfSet rootedWorth (node r f empty) v ↔ Charged (WorthOfSet rootedWorth f) (branch o r) v
     rooted-group v = (down, up)
       where
-        down : Sets rootedWorth (node r f empty) v → Charged (Sets rootedWorth f) (branch o r) v
+        down : WorthOfSet rootedWorth (node r f empty) v → Charged (WorthOfSet rootedWorth f) (branch o r) v
         down x =
             let e = unchosen (x .set) (x .taxa) in
             let h : 0 < chosenIn (x .set) f = omega (arith, ap one e) in
             (rootedWorth (x .set) f, record { set = x .set; taxa = omega arith; some = h; is = refl }, x .is ∙ group-rooted (x .set) e h)
 
-        up : Charged (Sets rootedWorth f) (branch o r) v → Sets rootedWorth (node r f empty) v
+        up : Charged (WorthOfSet rootedWorth f) (branch o r) v → WorthOfSet rootedWorth (node r f empty) v
         up (w, x, e) =
             let p = x .set in
             lift p (x .taxa) (x .some)
-            (e ∙ ap (λ w. charge w (branch o r)) (x .is ∙ sym (rooted-splits .agree _ p f (merged-in nobody p f)))
-            ∙ sym (group-rooted (merged nobody p f) (outside p) (omega (arith, members-chosen p))))
+            (e ∙ ap (λ w. charge w (branch o r)) (x .is ∙ sym (rooted-splits .agree _ p f (merged-in noRecord p f)))
+            ∙ sym (group-rooted (merged noRecord p f) (outside p) (omega (arith, members-chosen p))))
 
-    pub unrooted-group : (v : Value) → Sets unrootedWorth (node r f empty) v ↔ Sets unrootedWorth f v
+    pub unrooted-group : (v : Value) → WorthOfSet unrootedWorth (node r f empty) v ↔ WorthOfSet unrootedWorth f v
     unrooted-group v = (down, up)
       where
-        down : Sets unrootedWorth (node r f empty) v → Sets unrootedWorth f v
+        down : WorthOfSet unrootedWorth (node r f empty) v → WorthOfSet unrootedWorth f v
         down x =
             let e = unchosen (x .set) (x .taxa) in
             record { set = x .set; taxa = omega arith; some = omega (arith, ap one e); is = x .is ∙ group-unrooted (x .set) e }
 
-        up : Sets unrootedWorth f v → Sets unrootedWorth (node r f empty) v
+        up : WorthOfSet unrootedWorth f v → WorthOfSet unrootedWorth (node r f empty) v
         up x =
             let p = x .set in
             lift p (x .taxa) (x .some)
-            (x .is ∙ sym (unrooted-splits .agree _ p f (merged-in nobody p f)) ∙ sym (group-unrooted (merged nobody p f) (outside p)))
+            (x .is ∙ sym (unrooted-splits .agree _ p f (merged-in noRecord p f)) ∙ sym (group-unrooted (merged noRecord p f) (outside p)))

@@ -7,24 +7,25 @@ use native.Mathlib.Omega.{arith}
 use Rattle.outline.specs.Lists.{pick}
 use Rattle.outline.specs.Outline.{size, next, first, price, isTaxon}
 use Rattle.outline.proofs.Kept.{Linked}
-use Rattle.laws.proofs.Forest.{Forest, empty, node, tree, tree-zero, tree-step, members-cases, disjoint}
-use Rattle.laws.proofs.Candidate.{none, betterOf}
+use Rattle.laws.specs.Forest.{Forest, empty, node, tree}
+use Rattle.laws.specs.Candidate.{none, betterOf}
+use Rattle.laws.proofs.Forest.{tree-zero, tree-step, members-cases, disjoint}
 use Rattle.rows.specs.Rows.{Row, betterRow, joinRow, isLeaf, cladeRow, pushed, rootedRow, aloneRow, crossRow, singleRow, acrossRow}
 use Rattle.rows.proofs.Push.{rooted-chain, cross-swapped}
 
 -- a column of a pushed row depends on the columns up to it
-module _ (o : List ℕ) (code : ℕ → ℕ) where
+module _ (o : List ℕ) (weigh : ℕ → ℕ) where
   pub clade-same : (r : ℕ) (taxon : Bool) {x y : Row} (g h : Row) (b : ℕ) → ((i : ℕ) → i ≤ b → x i ≡ y i) → g b ≡ h b
-      → cladeRow o code r taxon x g b ≡ cladeRow o code r taxon y h b
+      → cladeRow o weigh r taxon x g b ≡ cladeRow o weigh r taxon y h b
   unfolding cladeRow joinRow
   clade-same r taxon g h b p q = rw (p (b - price o r) (omega arith), q)
 
-  pub pushed-same : (F : Forest) {x y : Row} (b : ℕ) → ((i : ℕ) → i ≤ b → x i ≡ y i) → pushed o code F x b ≡ pushed o code F y b
+  pub pushed-same : (F : Forest) {x y : Row} (b : ℕ) → ((i : ℕ) → i ≤ b → x i ≡ y i) → pushed o weigh F x b ≡ pushed o weigh F y b
   unfolding pushed
   pushed-same empty b p = refl
   pushed-same (node r f n) {x} {y} b p =
-      let rest : (i : ℕ) → i ≤ b → pushed o code n x i ≡ pushed o code n y i = λ i l. pushed-same n i (λ j k. p j (omega arith)) in
-      let follow : (i : ℕ) → i ≤ b → betterRow x (pushed o code n x) i ≡ betterRow y (pushed o code n y) i = λ i l. ap₂ betterOf (p i l) (rest i l) in
+      let rest : (i : ℕ) → i ≤ b → pushed o weigh n x i ≡ pushed o weigh n y i = λ i l. pushed-same n i (λ j k. p j (omega arith)) in
+      let follow : (i : ℕ) → i ≤ b → betterRow x (pushed o weigh n x) i ≡ betterRow y (pushed o weigh n y) i = λ i l. ap₂ betterOf (p i l) (rest i l) in
       ap₂ betterOf (clade-same r (isLeaf f) _ _ b follow (pushed-same f b follow)) (rest b (omega arith))
 
 pick-itself : (t : Bool) → pick t true false ≡ t
@@ -34,36 +35,36 @@ pick-itself false = refl
 pub leaf-taxon : (o : List ℕ) → Linked o → (r : ℕ) → 1 ≤ r → r ≤ size o → isLeaf (tree o (first o r)) ≡ isTaxon o r
 leaf-taxon o linked r l u = members-cases o linked r l u isLeaf true false refl (λ q g m. refl) ∙ pick-itself (isTaxon o r)
 
-module _ (o : List ℕ) (linked : Linked o) (code : ℕ → ℕ) where
+module _ (o : List ℕ) (linked : Linked o) (weigh : ℕ → ℕ) where
   -- no record, no set
-  pub pushed-zero : (x : Row) (b : ℕ) → pushed o code (tree o 0) x b ≡ none
+  pub pushed-zero : (x : Row) (b : ℕ) → pushed o weigh (tree o 0) x b ≡ none
   unfolding pushed
-  pushed-zero x b = ap (λ F. pushed o code F x b) (tree-zero o)
+  pushed-zero x b = ap (λ F. pushed o weigh F x b) (tree-zero o)
 
   module _ (r : ℕ) (l : 1 ≤ r) (u : r ≤ size o) (b : ℕ) where
-    pub pushed-step : (x : Row) → pushed o code (tree o r) x b
+    pub pushed-step : (x : Row) → pushed o weigh (tree o r) x b
         ≡ betterOf
-        (cladeRow o code r (isTaxon o r) (betterRow x (pushed o code (tree o (next o r)) x))
-        (pushed o code (tree o (first o r)) (betterRow x (pushed o code (tree o (next o r)) x))) b)
-        (pushed o code (tree o (next o r)) x b)
+        (cladeRow o weigh r (isTaxon o r) (betterRow x (pushed o weigh (tree o (next o r)) x))
+        (pushed o weigh (tree o (first o r)) (betterRow x (pushed o weigh (tree o (next o r)) x))) b)
+        (pushed o weigh (tree o (next o r)) x b)
     unfolding pushed
-    pushed-step x = ap (λ F. pushed o code F x b) (tree-step o linked r l u) ∙ rw (leaf-taxon o linked r l u)
+    pushed-step x = ap (λ F. pushed o weigh F x b) (tree-step o linked r l u) ∙ rw (leaf-taxon o linked r l u)
 
-    pub rooted-step : rootedRow o code (tree o r) b
-        ≡ betterOf (betterOf (aloneRow o code r (isTaxon o r) (tree o (first o r)) b) (rootedRow o code (tree o (next o r)) b))
-        (crossRow o code r (isTaxon o r) (tree o (first o r)) (tree o (next o r)) b)
+    pub rooted-step : rootedRow o weigh (tree o r) b
+        ≡ betterOf (betterOf (aloneRow o weigh r (isTaxon o r) (tree o (first o r)) b) (rootedRow o weigh (tree o (next o r)) b))
+        (crossRow o weigh r (isTaxon o r) (tree o (first o r)) (tree o (next o r)) b)
     rooted-step =
-        ap (λ F. rootedRow o code F b) (tree-step o linked r l u)
-        ∙ rooted-chain o code r _ _ (disjoint o linked r l u) b ∙ rw (leaf-taxon o linked r l u)
+        ap (λ F. rootedRow o weigh F b) (tree-step o linked r l u)
+        ∙ rooted-chain o weigh r _ _ (disjoint o linked r l u) b ∙ rw (leaf-taxon o linked r l u)
 
-    pub across-step : acrossRow o code (tree o r) b
+    pub across-step : acrossRow o weigh (tree o r) b
         ≡ betterOf
-        (betterOf (betterOf (singleRow o code r (isTaxon o r) b) (acrossRow o code (tree o (first o r)) b)) (acrossRow o code (tree o (next o r)) b))
-        (crossRow o code r (isTaxon o r) (tree o (first o r)) (tree o (next o r)) b)
+        (betterOf (betterOf (singleRow o weigh r (isTaxon o r) b) (acrossRow o weigh (tree o (first o r)) b)) (acrossRow o weigh (tree o (next o r)) b))
+        (crossRow o weigh r (isTaxon o r) (tree o (first o r)) (tree o (next o r)) b)
     unfolding acrossRow
-    across-step = ap (λ F. acrossRow o code F b) (tree-step o linked r l u) ∙ rw (leaf-taxon o linked r l u)
+    across-step = ap (λ F. acrossRow o weigh F b) (tree-step o linked r l u) ∙ rw (leaf-taxon o linked r l u)
 
     -- the crossing row, from either side
-    pub cross-step : crossRow o code r (isTaxon o r) (tree o (first o r)) (tree o (next o r)) b
-        ≡ pushed o code (tree o (next o r)) (aloneRow o code r (isTaxon o r) (tree o (first o r))) b
-    cross-step = rw (leaf-taxon o linked r l u) at (cross-swapped o code r (tree o (first o r)) (tree o (next o r)) (disjoint o linked r l u) b)
+    pub cross-step : crossRow o weigh r (isTaxon o r) (tree o (first o r)) (tree o (next o r)) b
+        ≡ pushed o weigh (tree o (next o r)) (aloneRow o weigh r (isTaxon o r) (tree o (first o r))) b
+    cross-step = rw (leaf-taxon o linked r l u) at (cross-swapped o weigh r (tree o (first o r)) (tree o (next o r)) (disjoint o linked r l u) b)

@@ -9,20 +9,21 @@ use lib.Dec.{eqb}
 use Rattle.outline.specs.Lists.{pick, one, from}
 use Rattle.outline.specs.Outline.{size, first, price, records, isTaxon}
 use Rattle.outline.proofs.Kept.{Linked}
-use Rattle.diversity.specs.Diversity.{chosen, diversity, rooted, unrooted, cost}
+use Rattle.diversity.specs.Diversity.{IsSet, chosen, diversity, rooted, unrooted, cost}
 use Rattle.diversity.specs.Search.{optimum}
+use Rattle.laws.specs.Forest.{Forest, tree, isGroup}
+use Rattle.laws.specs.Candidate.{Value, nothingWorth, some}
+use Rattle.laws.specs.Numbers.{weight, code, worth}
 use Rattle.laws.proofs.Sums.{one-false, occurs-range, total-term}
-use Rattle.laws.proofs.Forest.{Forest, tree, members-cases, sum-all, inside, distinct}
-use Rattle.laws.proofs.Measures.{chosenIn, isGroup, groupsIn, weight-quiet, rooted-quiet, unrooted-quiet}
+use Rattle.laws.proofs.Forest.{members-cases, sum-all, inside, distinct}
+use Rattle.laws.proofs.Measures.{chosenIn, groupsIn, weight-quiet, rooted-quiet, unrooted-quiet}
 use Rattle.laws.proofs.ByTree.{groups-none, rooted-tree, unrooted-tree, cost-tree}
-use Rattle.laws.proofs.Candidate.{Value, nothingWorth, some}
 use Rattle.laws.proofs.Order.{value-path}
 use Rattle.laws.proofs.Best.{Best, best-same, best-nothing, best-either, best-unique}
-use Rattle.laws.proofs.Numbers.{weight, code, worth}
 use Rattle.laws.proofs.Marks.{Marked, done, leave, choose, marked-set, map-at}
-use Rattle.laws.proofs.Optimum.{Worths, optimum-best}
+use Rattle.laws.proofs.Optimum.{IsWorth, optimum-best}
 use Rattle.rows.specs.Rows.{rootedRow, acrossRow, topRow}
-use Rattle.rows.proofs.Sets.{Agree, Sets, Splits, nobody, sum-zero, rootedWorth, unrootedWorth, rooted-splits, unrooted-splits}
+use Rattle.rows.proofs.Sets.{Agree, WorthOfSet, Splits, noRecord, sum-zero, rootedWorth, unrootedWorth, rooted-splits, unrooted-splits}
 use Rattle.rows.proofs.Push.{Once, rooted-best, across-best}
 
 -- ---- a test of record numbers, as marks
@@ -55,7 +56,8 @@ module _ (o : List ℕ) where
   splits-by true = rooted-splits o (weight o)
   splits-by false = unrooted-splits o (weight o)
 
-  row-by : (b : Bool) (F : Forest) → Once F → (c : ℕ) → Best (Sets (worthBy b) F) c (pick b (rootedRow o (weight o) F c) (acrossRow o (weight o) F c))
+  row-by : (b : Bool) (F : Forest) → Once F → (c : ℕ)
+      → Best (WorthOfSet (worthBy b) F) c (pick b (rootedRow o (weight o) F c) (acrossRow o (weight o) F c))
   row-by true = rooted-best o (weight o)
   row-by false = across-best o (weight o)
 
@@ -64,14 +66,14 @@ module _ (o : List ℕ) where
   quiet-by false p F z = value-path (unrooted-quiet o p F z) (weight-quiet p (price o) F z) (weight-quiet p (weight o) F z)
 
 module _ (o : List ℕ) (linked : Linked o) where
-  worth-tree : (way : ℕ) {s : List ℕ} → Marked o (records o) s → worth o way s ≡ worthBy o (eqb way 0) (chosen s) (tree o 1)
+  worth-tree : (way : ℕ) {s : List ℕ} → IsSet o s → worth o way s ≡ worthBy o (eqb way 0) (chosen s) (tree o 1)
   unfolding worth diversity code
   worth-tree way {s} m = go (eqb way 0)
     where
       go : (b : Bool) → _≡_ {A = Value} (record { diversity = pick b (rooted o s) (unrooted o s); cost = cost o s; code = code o s }) (worthBy o b (chosen s) (tree o 1))
       go true = value-path (rooted-tree o linked s) (cost-tree o linked s) (sum-all o linked (λ r f. pick (chosen s r) (weight o r) 0))
       go false =
-          value-path (unrooted-tree o linked s (marked-set m)) (cost-tree o linked s) (sum-all o linked (λ r f. pick (chosen s r) (weight o r) 0))
+          value-path (unrooted-tree o linked s m) (cost-tree o linked s) (sum-all o linked (λ r f. pick (chosen s r) (weight o r) 0))
 
   -- a set given by a test of record numbers is one that the search lists
   module _ (p : ℕ → Bool) (taxa : groupsIn p (tree o 1) ≡ 0) where
@@ -88,9 +90,9 @@ module _ (o : List ℕ) (linked : Linked o) where
           ap one (and-true (p r)),
         ))
 
-    marks-in : Marked o (records o) (marks p 1 (size o))
+    marks-in : IsSet o (marks p 1 (size o))
     unfolding records
-    marks-in = marks-marked o p 1 (size o) taxa-only
+    marks-in = marked-set (marks-marked o p 1 (size o) taxa-only)
 
     marks-agree : Agree (chosen (marks p 1 (size o))) p (tree o 1)
     unfolding records chosen
@@ -102,18 +104,18 @@ module _ (o : List ℕ) (linked : Linked o) where
     marks-worth way = sym (worth-tree way marks-in ∙ splits-by o (eqb way 0) .agree _ p (tree o 1) marks-agree)
 
   module _ (way : ℕ) (v : Value) where
-    to-worths : (v ≡ nothingWorth) ⊎ Sets (worthBy o (eqb way 0)) (tree o 1) v → Worths o way v
+    to-worths : (v ≡ nothingWorth) ⊎ WorthOfSet (worthBy o (eqb way 0)) (tree o 1) v → IsWorth o way v
     to-worths (inl e) =
         let z = sum-zero (tree o 1) in
-        (marks nobody 1 (size o), marks-in nobody z, e ∙ sym (quiet-by o (eqb way 0) nobody (tree o 1) z) ∙ marks-worth nobody z way)
+        (marks noRecord 1 (size o), marks-in noRecord z, e ∙ sym (quiet-by o (eqb way 0) noRecord (tree o 1) z) ∙ marks-worth noRecord z way)
     to-worths (inr x) = (marks (x .set) 1 (size o), marks-in (x .set) (x .taxa), x .is ∙ marks-worth (x .set) (x .taxa) way)
 
-    of-worths : Worths o way v → (v ≡ nothingWorth) ⊎ Sets (worthBy o (eqb way 0)) (tree o 1) v
+    of-worths : IsWorth o way v → (v ≡ nothingWorth) ⊎ WorthOfSet (worthBy o (eqb way 0)) (tree o 1) v
     of-worths (s, m, e) = go (chosenIn (chosen s) (tree o 1)) refl
       where
-        go : (k : ℕ) → chosenIn (chosen s) (tree o 1) ≡ k → (v ≡ nothingWorth) ⊎ Sets (worthBy o (eqb way 0)) (tree o 1) v
+        go : (k : ℕ) → chosenIn (chosen s) (tree o 1) ≡ k → (v ≡ nothingWorth) ⊎ WorthOfSet (worthBy o (eqb way 0)) (tree o 1) v
         go zero z = inl (e ∙ worth-tree way m ∙ quiet-by o (eqb way 0) (chosen s) (tree o 1) z)
-        go (suc k) z = inr (record { set = chosen s; taxa = groups-none o linked s (marked-set m); some = omega arith; is = e ∙ worth-tree way m })
+        go (suc k) z = inr (record { set = chosen s; taxa = groups-none o linked s m; some = omega arith; is = e ∙ worth-tree way m })
 
   -- in every column, the top row is what the best set is worth
   pub top-row : (way b : ℕ) → topRow o way b ≡ some (worth o way (optimum o way b))

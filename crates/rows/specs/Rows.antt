@@ -1,15 +1,14 @@
 -- The rows of the table, by recursion over a forest: a row is pushed through the forest, from its last clade to its first.
--- `code r` is what taxon r adds to a set's number.
+-- `weigh r` is what taxon r adds to a set's number.
 use Prim.Native.Nat.{ℕ, _-_}
 use mathlib.Core.Bool.{Bool, not}
 use mathlib.Core.List.{List}
 use lib.Dec.{eqb}
 use Rattle.outline.specs.Lists.{pick}
 use Rattle.outline.specs.Outline.{branch, price}
-use Rattle.laws.proofs.Forest.{Forest, empty, node, tree}
-use Rattle.laws.proofs.Measures.{isGroup}
-use Rattle.laws.proofs.Numbers.{weight}
-use Rattle.laws.proofs.Candidate.{Value, nothingWorth, Cand, none, some, betterOf, joinOf, chargeOf, oneAt}
+use Rattle.laws.specs.Forest.{Forest, empty, node, tree, isGroup}
+use Rattle.laws.specs.Numbers.{weight}
+use Rattle.laws.specs.Candidate.{Value, nothingWorth, Cand, none, some, betterOf, joinOf, chargeOf, oneAt}
 
 -- a candidate for each page count
 abbrev pub Row : Type 0
@@ -26,15 +25,16 @@ joinRow v x b = joinOf (oneAt v b) (x (b - v .cost))
 abbrev pub isLeaf : Forest → Bool
 isLeaf f = not (isGroup f)
 
-module _ (o : List ℕ) (code : ℕ → ℕ) where
+module _ (o : List ℕ) (weigh : ℕ → ℕ) where
   -- what a taxon alone is worth
   abbrev pub taxonRooted : ℕ → Value
-  taxonRooted r = record { diversity = branch o r; cost = price o r; code = code r }
+  taxonRooted r = record { diversity = branch o r; cost = price o r; code = weigh r }
 
   abbrev pub taxonUnrooted : ℕ → Value
-  taxonUnrooted r = record { diversity = 0; cost = price o r; code = code r }
+  taxonUnrooted r = record { diversity = 0; cost = price o r; code = weigh r }
 
-  -- something in r's clade, and then what may follow: x follows a taxon, g has a group's members with what follows
+  -- something in r's clade, and then what may follow: for a taxon, x is what may follow; for a group, g is something of its
+  -- members and then what may follow
   unfoldable pub cladeRow : ℕ → Bool → Row → Row → Row
   cladeRow r taxon x g b = pick taxon (joinRow (taxonRooted r) x b) (chargeOf (g b) (branch o r))
 
@@ -71,5 +71,6 @@ module _ (o : List ℕ) (code : ℕ → ℕ) where
 -- the table's last row: nothing, or something in the clade of record 1, by the way of counting
 unfoldable pub topRow : List ℕ → ℕ → Row
 topRow o way b =
-    let code = weight o in
-    betterOf (some nothingWorth) (pick (eqb way 0) (rootedRow o code (tree o 1) b) (acrossRow o code (tree o 1) b))
+    let rooted = rootedRow o (weight o) (tree o 1) b in
+    let unrooted = acrossRow o (weight o) (tree o 1) b in
+    betterOf (some nothingWorth) (pick (eqb way 0) rooted unrooted)

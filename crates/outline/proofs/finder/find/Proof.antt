@@ -6,7 +6,7 @@ use borrow.Author.Needs.{needs}
 use borrow.Author.Tests.{ne-eqb}
 use Rattle.outline.specs.Outline.{size, records}
 use Rattle.outline.specs.Verdict.{found, bytesOf}
-use Rattle.outline.proofs.Rows.{refusal-not-zero}
+use Rattle.outline.proofs.Refusals.{refusal-not-zero}
 use Rattle.outline.proofs.Walk.{lowest-le}
 use Rattle.outline.proofs.finder.find.Statement.{statement}
 use Rattle.outline.proofs.finder.find.Tie as tie

@@ -5,7 +5,7 @@ use lib.Dec.{eqb}
 use borrow.Author.Needs.{needs}
 use Rattle.outline.specs.Outline.{records, next, first}
 use Rattle.outline.specs.Rules.{naming, named}
-use Rattle.outline.proofs.Tests.{one-le}
+use Rattle.outline.proofs.Bools.{one-le}
 use Rattle.outline.proofs.Walk.{Summing, summing-starts, summing-goes, summing-ends}
 use Rattle.outline.proofs.rules.named_of.Statement.{statement}
 use Rattle.outline.proofs.rules.named_of.Tie as tie

@@ -4,8 +4,8 @@ use native.Mathlib.Omega.{arith}
 use borrow.Author.Needs.{needs}
 use Rattle.outline.specs.Lists.{one}
 use Rattle.outline.specs.Outline.{isTaxon, records}
-use Rattle.outline.specs.Rules.{taxa}
-use Rattle.outline.proofs.Tests.{byte-one, one-le}
+use Rattle.outline.specs.Rules.{taxaIn, taxa}
+use Rattle.outline.proofs.Bools.{byte-one, one-le}
 use Rattle.outline.proofs.Walk.{Summing, summing-starts, summing-goes, summing-ends}
 use Rattle.outline.proofs.rules.taxa_of.Statement.{statement}
 use Rattle.outline.proofs.rules.taxa_of.Tie as tie
@@ -25,7 +25,7 @@ loop-again c =
     summing-goes _ _ (c .before .before .loop .inv) (c .before .loop-test .taken) (rw (byte-one, c .is-taxon .ensures)) (omega (arith, byte-one t, one-le t))
 
 returns : tie.Need-returns Inv-loop μ-loop
-unfolding taxa records
+unfolding taxa taxaIn records
 returns c = summing-ends _ _ (c .before .loop .inv) (c .loop-test .left)
 
 pub taxa-of-spec : {M : Type 1} → statement M

@@ -14,14 +14,14 @@ pub one-le : (b : Bool) → one b ≤ 1
 one-le true = omega arith
 one-le false = omega arith
 
-pub or-false : (a b : Bool) → (a || b) ≡ false → (a ≡ false) × (b ≡ false)
-or-false true b e = absurd (false≢true (sym e))
-or-false false b e = (refl, e)
+pub both-false : (a b : Bool) → (a || b) ≡ false → (a ≡ false) × (b ≡ false)
+both-false true b e = absurd (false≢true (sym e))
+both-false false b e = (refl, e)
 
-pub and-true : (a b : Bool) → (a && b) ≡ true → (a ≡ true) × (b ≡ true)
-and-true true b e = (refl, e)
-and-true false b e = absurd (false≢true e)
+pub both-true : (a b : Bool) → (a && b) ≡ true → (a ≡ true) × (b ≡ true)
+both-true true b e = (refl, e)
+both-true false b e = absurd (false≢true e)
 
-pub and-false : (a b : Bool) → (a && b) ≡ false → a ≡ true → b ≡ false
-and-false true b e h = e
-and-false false b e h = absurd (false≢true h)
+pub second-false : (a b : Bool) → (a && b) ≡ false → a ≡ true → b ≡ false
+second-false true b e h = e
+second-false false b e h = absurd (false≢true h)

@@ -1,14 +1,14 @@
--- `outline_cases::page::comb` is safe and ends: the records are written in pairs, up to the last.
+-- `outline_cases::outlines::comb` is safe and ends: the records are written in pairs, up to the last.
 use Prim.Native.Nat.{_+_, _-_, _≤_}
 use borrow.Author.Needs.{needs}
-use Rattle.outline_cases.proofs.page.comb.Statement.{statement}
-use Rattle.outline_cases.proofs.page.comb.Tie as tie
+use Rattle.outline_cases.proofs.outlines.comb.Statement.{statement}
+use Rattle.outline_cases.proofs.outlines.comb.Tie as tie
 
 abbrev Inv-loop : tie.InvT-loop
-Inv-loop n page₀ r₀ page r = (1 ≤ r) × (r ≤ n + 1)
+Inv-loop n bytes₀ r₀ bytes r = (1 ≤ r) × (r ≤ n + 1)
 
 abbrev μ-loop : tie.MeasureT-loop
-μ-loop n page₀ r₀ page r = n + 1 - r
+μ-loop n bytes₀ r₀ bytes r = n + 1 - r
 
 pub comb-spec : {M : Type 1} → statement M
 comb-spec =

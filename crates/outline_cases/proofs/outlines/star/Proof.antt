@@ -1,14 +1,14 @@
--- `outline_cases::page::star` is safe and ends: the records are written in order, up to the last.
+-- `outline_cases::outlines::star` is safe and ends: the records are written in order, up to the last.
 use Prim.Native.Nat.{_-_, _≤_}
 use borrow.Author.Needs.{needs}
-use Rattle.outline_cases.proofs.page.star.Statement.{statement}
-use Rattle.outline_cases.proofs.page.star.Tie as tie
+use Rattle.outline_cases.proofs.outlines.star.Statement.{statement}
+use Rattle.outline_cases.proofs.outlines.star.Tie as tie
 
 abbrev Inv-loop : tie.InvT-loop
-Inv-loop n page₀ r₀ page r = (1 ≤ r) × (r ≤ n)
+Inv-loop n bytes₀ r₀ bytes r = (1 ≤ r) × (r ≤ n)
 
 abbrev μ-loop : tie.MeasureT-loop
-μ-loop n page₀ r₀ page r = n - r
+μ-loop n bytes₀ r₀ bytes r = n - r
 
 pub star-spec : {M : Type 1} → statement M
 star-spec =

@@ -1,0 +1,4 @@
+-- What the laws, and the contracts of the crates above, speak of besides the definitions of `outline` and `diversity`.
+pub mod Candidate
+pub mod Forest
+pub mod Numbers
