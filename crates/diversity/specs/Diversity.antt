@@ -10,10 +10,11 @@ use lib.Dec.{eqb}
 use Rattle.outline.specs.Lists.{pick, one, anywhere, total}
 use Rattle.outline.specs.Outline.{size, records, next, first, branch, price, isTaxon}
 
--- mark a may stand at record r
+-- mark a may stand at record r: 0, or 1 at a taxon
 abbrev pub MarkAt : List ℕ → ℕ → ℕ → Type 0
 MarkAt o r a = (a ≡ 0) ⊎ ((a ≡ 1) × (isTaxon o r ≡ true))
 
+-- s is a set of taxa
 pub record IsSet (o s : List ℕ) : Type 0 where
   pub whole : length s ≡ size o
   pub marks : (r : ℕ) → 1 ≤ r → r ≤ size o → MarkAt o r (getD s (r - 1) 0)
@@ -28,6 +29,7 @@ chain (suc depth) o (suc r) = suc r ∷ (chain depth o (first o (suc r)) ++ chai
 unfoldable pub clade : List ℕ → ℕ → List ℕ
 clade o r = r ∷ chain (size o) o (first o r)
 
+-- record r is marked
 unfoldable pub chosen : List ℕ → ℕ → Bool
 chosen s r = eqb (getD s (r - 1) 0) 1
 
@@ -39,14 +41,15 @@ within o s r = anywhere (chosen s) (clade o r)
 unfoldable pub elsewhere : List ℕ → List ℕ → ℕ → Bool
 elsewhere o s r = anywhere (λ t. chosen s t && not (anywhere (eqb t) (clade o r))) (records o)
 
--- rooted (way 0): the sum of lengths of records that are, or have below them, a chosen taxon
+-- rooted (way 0), rPD: the sum of lengths of records that are, or have below them, a chosen taxon; the root's own counts
 unfoldable pub rooted : List ℕ → List ℕ → ℕ
 rooted o s = total (λ r. pick (within o s r) (branch o r) 0) (records o)
 
--- unrooted (way 1): the sum of lengths of records with a chosen taxon at or below them and a chosen taxon elsewhere
+-- unrooted (way 1), uPD: the sum of lengths of records with a chosen taxon at or below them and a chosen taxon elsewhere
 unfoldable pub unrooted : List ℕ → List ℕ → ℕ
 unrooted o s = total (λ r. pick (within o s r && elsewhere o s r) (branch o r) 0) (records o)
 
+-- by the way of counting
 unfoldable pub diversity : List ℕ → ℕ → List ℕ → ℕ
 diversity o way s = pick (eqb way 0) (rooted o s) (unrooted o s)
 

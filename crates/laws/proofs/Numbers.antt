@@ -32,8 +32,8 @@ taxa-more : (o : List ℕ) (r : ℕ) (rs : List ℕ) → 2 ^ taxaIn o rs ≤ 2 ^
 unfolding taxaIn total
 taxa-more o r rs = pow-mono (omega arith)
 
--- the code, record by record
-unfoldable pub codeFrom : List ℕ → List ℕ → List ℕ → ℕ
+-- ---- the number of the marks of the records rs, record by record
+codeFrom : List ℕ → List ℕ → List ℕ → ℕ
 codeFrom o [] s = 0
 codeFrom o (r ∷ rs) [] = 0
 codeFrom o (r ∷ rs) (a ∷ s) = a * 2 ^ taxaIn o rs + codeFrom o rs s
@@ -58,7 +58,7 @@ ltb-no-digit : (k x y : ℕ) → x < k → ltb (1 * k + y) (0 * k + x) ≡ false
 ltb-no-digit k x y h = le-ltb (1 * k + y) (0 * k + x) (omega arith)
 
 -- codes order the sets as the first mark on which they differ does
-pub code-from-leads : {o rs s t : List ℕ} → Marked o rs s → Marked o rs t → ltb (codeFrom o rs t) (codeFrom o rs s) ≡ leads s t
+code-from-leads : {o rs s t : List ℕ} → Marked o rs s → Marked o rs t → ltb (codeFrom o rs t) (codeFrom o rs s) ≡ leads s t
 unfolding leads codeFrom
 code-from-leads done done = refl
 code-from-leads {o} (leave {rs = rs} m) (leave n) = ltb-shift (0 * 2 ^ taxaIn o rs) _ _ ∙ code-from-leads m n
@@ -66,7 +66,7 @@ code-from-leads (leave m) (choose e n) = ltb-no-digit _ _ _ (code-from-below m)
 code-from-leads (choose d m) (leave n) = ltb-digit _ _ _ (code-from-below n)
 code-from-leads {o} (choose {rs = rs} d m) (choose e n) = ltb-shift (1 * 2 ^ taxaIn o rs) _ _ ∙ code-from-leads m n
 
-pub code-from-inj : {o rs s t : List ℕ} → Marked o rs s → Marked o rs t → codeFrom o rs s ≡ codeFrom o rs t → s ≡ t
+code-from-inj : {o rs s t : List ℕ} → Marked o rs s → Marked o rs t → codeFrom o rs s ≡ codeFrom o rs t → s ≡ t
 unfolding codeFrom
 code-from-inj done done h = refl
 code-from-inj (leave m) (leave n) h = ap (λ (s : List ℕ). 0 ∷ s) (code-from-inj m n (omega arith))
@@ -74,11 +74,12 @@ code-from-inj (leave m) (choose e n) h = let no : ⊥ = omega (arith, code-from-
 code-from-inj (choose d m) (leave n) h = let no : ⊥ = omega (arith, code-from-below n) in absurd no
 code-from-inj (choose d m) (choose e n) h = ap (λ (s : List ℕ). 1 ∷ s) (code-from-inj m n (omega arith))
 
--- the marks again
+-- ---- the marks again
 marksFrom : List ℕ → List ℕ → ℕ → List ℕ
 marksFrom o [] c = []
 marksFrom o (r ∷ rs) c = pick (isTaxon o r) (c / 2 ^ taxaIn o rs % 2) 0 ∷ marksFrom o rs c
 
+-- m stands for the digits of earlier records
 module _ (o : List ℕ) (r : ℕ) (rs s : List ℕ) (m c : ℕ) (x<k : codeFrom o rs s < 2 ^ taxaIn o rs)
     (below : (m : ℕ) → c ≡ m * 2 ^ taxaIn o rs + codeFrom o rs s → marksFrom o rs c ≡ s) where
   marks-from-taxon : (a : ℕ) → a < 2 → isTaxon o r ≡ true → c ≡ m * 2 ^ taxaIn o (r ∷ rs) + (a * 2 ^ taxaIn o rs + codeFrom o rs s)
@@ -110,11 +111,12 @@ marks-from-code {o} (leave {r} {rs} {s} h) m c e =
 marks-from-code {o} (choose {r} {rs} {s} t h) m c e =
     marks-from-taxon o r rs s m c (code-from-below h) (λ n. marks-from-code h n c) 1 (omega arith) t e
 
+-- ---- the same by weights, over all records
 weight-from : (o : List ℕ) (k n : ℕ) → k + n ≡ size o → weight o k ≡ 2 ^ taxaIn o (from (k + 1) n)
 unfolding weight
 weight-from o k n e = let f : size o - k ≡ n = omega arith in rw f
 
--- all weights together
+-- all weights together are below the next power of 2
 weights-from : (o : List ℕ) (k n : ℕ) → k + n ≡ size o
     → total (λ r. pick (isTaxon o r) (weight o r) 0) (from (k + 1) n) < 2 ^ taxaIn o (from (k + 1) n)
 unfolding total from
@@ -186,7 +188,7 @@ decode-code {o} {s} x =
     let m = set-marked x in
     decode-from o (code o s) 0 (size o) (omega arith) ∙ marks-from-code m 0 (code o s) (omega (arith, code-whole m))
 
--- a set of n taxa or fewer is a number of n binary digits
+-- it has as many binary digits as the outline has taxa
 pub code-below : {o s : List ℕ} → IsSet o s → code o s < 2 ^ taxa o
 unfolding taxa
 code-below x = let m = set-marked x in rw (code-whole m) (code-from-below m)

@@ -15,6 +15,7 @@ pub record Told : Type 0 where
   pub number : ℕ
   pub place : ℕ
 
+-- no refusal
 abbrev pub passed : Told
 passed = record { number = 0; place = 0 }
 
@@ -30,6 +31,7 @@ refusal Refusal.TooManyTaxa = record { number = 7; place = 0 }  -- crowd
 refusal (Refusal.DuplicatePlate r) = record { number = 8; place = r }  -- twin
 refusal Refusal.BufferTooShort = record { number = 9; place = 0 }  -- space
 
+-- and of what the check answers
 abbrev pub told : Verdict → Told
 told Verdict.Accepted = passed
 told (Verdict.Refused e) = refusal e
@@ -74,6 +76,7 @@ recordRows o =
 unfoldable pub checked : List ℕ → Told
 checked o = sizeRows o ▸ recordRows o
 
+-- no row holds
 abbrev pub isAccepted : List ℕ → Bool
 isAccepted o = eqb (checked o .number) 0
 
