@@ -5,7 +5,7 @@ use mathlib.Core.Bool.{Bool, true, false, false≢true}
 use mathlib.Core.List.{List, []}
 use mathlib.Core.Logic.{_↔_}
 use native.Mathlib.Omega.{arith}
-use lib.ListN.{length, take, drop, length-drop}
+use lib.ListN.{length, getD, take, drop, length-drop}
 use lib.Seq.{length-take-le, getD-take, getD-drop}
 use lib.Dec.{eqb}
 use borrow.Author.Tests.{eqb-true, eqb-false, eq-eqb, ne-eqb}
@@ -41,11 +41,15 @@ module _ (o : List ℕ) (kept : Kept o) (r : ℕ) (l : 1 ≤ r) (u : r ≤ size 
   part-length = length-take-le 16 (drop (16 * (r - 1)) o) (simp length-drop (omega (arith, kept .whole)))
 
   -- a field of the part is that field of the record
+  part-byte : (at : ℕ) → at < 16 → getD part at 0 ≡ getD o (16 * (r - 1) + at) 0
+  unfolding part
+  part-byte at h = getD-take 16 (drop (16 * (r - 1)) o) at 0 h ∙ getD-drop (16 * (r - 1)) o at 0
+
   part-short : (at : ℕ) → at + 1 < 16 → short part at ≡ short o (16 * (r - 1) + at)
-  unfolding part short
+  unfolding short
   part-short at h =
       let later : 16 * (r - 1) + (at + 1) ≡ 16 * (r - 1) + at + 1 = omega arith in
-      rw (getD-take 16 (drop (16 * (r - 1)) o) at 0 (omega arith), getD-take 16 (drop (16 * (r - 1)) o) (at + 1) 0 h, getD-drop, getD-drop (16 * (r - 1)) o (at + 1) 0, later)
+      rw (part-byte at (omega arith), part-byte (at + 1) h, later)
 
   part-long : (at : ℕ) → at + 3 < 16 → long part at ≡ long o (16 * (r - 1) + at)
   unfolding long

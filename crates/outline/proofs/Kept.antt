@@ -117,32 +117,40 @@ sizes-kept o e =
     let s = sized o (row-fails _ _ (rows .0)) in
     (s .0, s .1, ltb-false _ _ (row-fails _ _ (rows .1)))
 
+-- a condition holds at no record
+abbrev Nowhere : List ℕ → (ℕ → Bool) → Type 0
+Nowhere o holds = (r : ℕ) → 1 ≤ r → r ≤ size o → holds r ≡ false
+
+kept-by : (o : List ℕ) → (1 ≤ size o) × (length o ≡ 16 * size o) × (size o ≤ mostRecords)
+    → Nowhere o (badField o) → Nowhere o (badLink o) → taxa o ≤ mostTaxa → Nowhere o (isDuplicate o) → Kept o
+kept-by o sizes field link few plates = record {
+  whole = sizes .1;
+  size-most = sizes .2;
+  ranged = λ r l u. ranged-by o r _ refl (field r l u);
+  linked = record {
+    filled = sizes .0;
+    next-later = λ r l u. own-links o r (link r l u) .0;
+    first-later = λ r l u. own-links o r (link r l u) .1;
+    root-alone = root-by o (link 1 (omega arith) (sizes .0));
+    named-once = λ q l u. named-by o q l (link q (omega arith) u);
+  };
+  taxa-most = few;
+  plates-differ = λ q r lq uq lr ur tq tr same.
+      differ o q r lq lr tq tr same (plates q lq uq) (plates r lr ur) (ltb q r) refl (ltb r q) refl;
+}
+
 -- with rows 5 to 8
 pub rows-kept : (o : List ℕ) → sizeRows o .number ≡ 0 → recordRows o .number ≡ 0 → Kept o
 unfolding recordRows records
 rows-kept o e d =
-    let sizes = sizes-kept o e in
     let fields = both-pass _ _ d in
     let links = both-pass _ _ (fields .1) in
     let few = both-pass _ _ (links .1) in
-    let field = lowest-none (badField o) (size o) (row-at-fails _ (badField o) o (fields .0)) in
-    let link = lowest-none (badLink o) (size o) (row-at-fails _ (badLink o) o (links .0)) in
-    let plates = lowest-none (isDuplicate o) (size o) (row-at-fails _ (isDuplicate o) o (few .1)) in
-    record {
-      whole = sizes .1;
-      size-most = sizes .2;
-      ranged = λ r l u. ranged-by o r _ refl (field r l u);
-      linked = record {
-        filled = sizes .0;
-        next-later = λ r l u. own-links o r (link r l u) .0;
-        first-later = λ r l u. own-links o r (link r l u) .1;
-        root-alone = root-by o (link 1 (omega arith) (sizes .0));
-        named-once = λ q l u. named-by o q l (link q (omega arith) u);
-      };
-      taxa-most = ltb-false _ _ (row-fails _ _ (few .0));
-      plates-differ = λ q r lq uq lr ur tq tr same.
-          differ o q r lq lr tq tr same (plates q lq uq) (plates r lr ur) (ltb q r) refl (ltb r q) refl;
-    }
+    kept-by o (sizes-kept o e)
+    (lowest-none _ _ (row-at-fails _ (badField o) o (fields .0)))
+    (lowest-none _ _ (row-at-fails _ (badLink o) o (links .0)))
+    (ltb-false _ _ (row-fails _ _ (few .0)))
+    (lowest-none _ _ (row-at-fails _ (isDuplicate o) o (few .1)))
 
 -- what the check establishes
 pub accepted-kept : (o : List ℕ) → isAccepted o ≡ true → Kept o
