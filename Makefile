@@ -5,6 +5,6 @@ test:
 	bash .ci/run
 
 run:
-	@echo "Choosing comes with the next landing. Until then: the check and the finder, on the cases of crates/outline_cases."
+	@echo "Choosing is not built yet. Here are the check and the finder, on the cases of crates/outline_cases."
 	rt check outline_cases
 	target/bin/outline_cases
