@@ -1,23 +1,12 @@
 -- Rooted and unrooted diversity of a set of taxa, its cost and its number of taxa. A set is its list of marks, one for
 -- each record: 1 at a chosen taxon, else 0.
-use Prim.Native.Nat.{ℕ, zero, suc, _-_, _≤_}
-use mathlib.Core.Path.{_≡_}
-use mathlib.Core.Logic.{_⊎_}
-use mathlib.Core.Bool.{Bool, true, _&&_, not}
+use Prim.Native.Nat.{ℕ, zero, suc, _-_}
+use mathlib.Core.Bool.{Bool, _&&_, not}
 use mathlib.Core.List.{List, [], _∷_, _++_}
-use lib.ListN.{length, getD}
+use lib.ListN.{getD}
 use lib.Dec.{eqb}
 use Rattle.outline.specs.Lists.{pick, one, anywhere, total}
-use Rattle.outline.specs.Outline.{size, records, next, first, branch, price, isTaxon}
-
--- mark a may stand at record r: 0, or 1 at a taxon
-abbrev pub MarkAt : List ℕ → ℕ → ℕ → Type 0
-MarkAt o r a = (a ≡ 0) ⊎ ((a ≡ 1) × (isTaxon o r ≡ true))
-
--- s is a set of taxa
-pub record IsSet (o s : List ℕ) : Type 0 where
-  pub whole : length s ≡ size o
-  pub marks : (r : ℕ) → 1 ≤ r → r ≤ size o → MarkAt o r (getD s (r - 1) 0)
+use Rattle.outline.specs.Outline.{size, records, next, first, branch, price}
 
 -- the records of the chain that begins at r, and all below them; depth bounds how far to look
 unfoldable pub chain : ℕ → List ℕ → ℕ → List ℕ
@@ -60,7 +49,3 @@ cost o s = total (λ r. pick (chosen s r) (price o r) 0) (records o)
 -- the number of taxa is the number marked
 unfoldable pub chosenTaxa : List ℕ → List ℕ → ℕ
 chosenTaxa o s = total (λ r. one (chosen s r)) (records o)
-
--- a set fits page count b if its cost is at most b
-abbrev pub Fits : List ℕ → ℕ → List ℕ → Type 0
-Fits o b s = cost o s ≤ b

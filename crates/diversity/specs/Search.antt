@@ -36,14 +36,11 @@ pub data Incumbent : Type 0 where
   nothing : Incumbent
   holding : List ℕ → Incumbent
 
--- a set is taken in hand if nothing is there, or if it is better than the one there
-unfoldable pub taken : List ℕ → ℕ → Incumbent → List ℕ → Incumbent
-taken o way nothing s = holding s
-taken o way (holding t) s = pick (better o way s t) (holding s) (holding t)
-
--- a set that doesn't fit page count b is passed over
+-- a set that doesn't fit page count b is passed over; one that fits is taken in hand if nothing is there, or if it is better
+-- than the one there
 unfoldable pub turn : List ℕ → ℕ → ℕ → Incumbent → List ℕ → Incumbent
-turn o way b held s = pick (leb (cost o s) b) (taken o way held s) held
+turn o way b nothing s = pick (leb (cost o s) b) (holding s) nothing
+turn o way b (holding t) s = pick (leb (cost o s) b && better o way s t) (holding s) (holding t)
 
 -- the search starts with nothing in hand and goes through every subset of the taxa
 unfoldable pub exhaustiveSearch : List ℕ → ℕ → ℕ → Incumbent

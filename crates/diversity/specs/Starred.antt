@@ -4,10 +4,9 @@ use mathlib.Core.Path.{_≡_, refl}
 use mathlib.Core.List.{List, [], _∷_, _++_, map}
 use Rattle.outline.specs.Lists.{from, anywhere, total, lowest}
 use Rattle.outline.specs.Outline.{short, long, records}
-use Rattle.outline.specs.Rules.{badField, naming, named, badLink, taxaIn, taxa, hasPlate, isDuplicate}
-use Rattle.outline.specs.Verdict.{Told, passed, sizeRows, recordRows, checked}
+use Rattle.outline.specs.Refusals.{badField, naming, named, badLink, taxaIn, taxa, hasPlate, isDuplicate, Told, passed, sizeRows, recordRows, checked}
 use Rattle.diversity.specs.Diversity.{chain, clade, chosen, within, elsewhere, rooted, unrooted, diversity, cost, chosenTaxa}
-use Rattle.diversity.specs.Search.{subsets, leads, better, taken, turn, exhaustiveSearch, setOf, optimum, bestDiversity, leastCost}
+use Rattle.diversity.specs.Search.{subsets, leads, better, turn, exhaustiveSearch, setOf, optimum, bestDiversity, leastCost}
 use Rattle.diversity.specs.Search.{columnsAlike, spare}
 
 -- what choosing gives: what the check tells of the outline, the marks, and the four numbers
@@ -124,6 +123,6 @@ pub starred-hold : map computed starred ≡ starred
 unfolding
     from anywhere total lowest short long records badField naming named badLink taxaIn taxa hasPlate
     isDuplicate sizeRows recordRows checked chain clade chosen within elsewhere rooted unrooted diversity cost
-    chosenTaxa subsets leads better taken turn exhaustiveSearch setOf optimum bestDiversity leastCost
+    chosenTaxa subsets leads better turn exhaustiveSearch setOf optimum bestDiversity leastCost
     columnsAlike spare bytes entry treeA treeB treeC treeD treeE starred
 starred-hold = refl

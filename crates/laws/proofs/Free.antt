@@ -11,9 +11,9 @@ use lib.Seq.{getD-set-same, getD-set-other}
 use borrow.Author.Tests.{eqb-true, eqb-false, eq-eqb}
 use Rattle.outline.specs.Lists.{pick, anywhere}
 use Rattle.outline.specs.Outline.{size, records, branch, price, isTaxon}
-use Rattle.diversity.specs.Diversity.{clade, chosen, within, elsewhere, rooted, unrooted, diversity, cost, MarkAt, IsSet}
+use Rattle.diversity.specs.Diversity.{clade, chosen, within, elsewhere, rooted, unrooted, diversity, cost}
+use Rattle.diversity.specs.Behind.{MarkAt, IsSet, Behind, less-diversity, more-cost, lacks-first}
 use Rattle.diversity.specs.Search.{optimum}
-use Rattle.diversity.specs.Behind.{Behind, less-diversity, more-cost, lacks-first}
 use Rattle.laws.proofs.Sums.{total-ext, total-below}
 use Rattle.laws.proofs.Optimum.{optimum-set, optimum-fits, others-behind}
 

@@ -9,7 +9,7 @@ use lib.Dec.{eqb}
 use borrow.Author.Tests.{eqb-true}
 use Rattle.outline.specs.Lists.{one, from, total}
 use Rattle.outline.specs.Outline.{size, next, first, records}
-use Rattle.outline.specs.Rules.{naming, named}
+use Rattle.outline.specs.Refusals.{naming, named}
 use Rattle.outline.proofs.Kept.{Later, Linked}
 use Rattle.laws.proofs.Sums.{Term, total-some, total-add, total-scale, total-swap, total-ext, total-single}
 

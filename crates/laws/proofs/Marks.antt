@@ -10,9 +10,9 @@ use lib.Dec.{eqb}
 use lib.ListN.{length, getD}
 use Rattle.outline.specs.Lists.{pick, from}
 use Rattle.outline.specs.Outline.{size, records, isTaxon}
-use Rattle.diversity.specs.Diversity.{chosen, MarkAt, IsSet}
+use Rattle.diversity.specs.Diversity.{chosen}
+use Rattle.diversity.specs.Behind.{MarkAt, IsSet, Lacks}
 use Rattle.diversity.specs.Search.{subsets, leads}
-use Rattle.diversity.specs.Behind.{Lacks}
 
 -- marks over the given records: 0, or 1 at a taxon
 pub data Marked (o : List ℕ) : List ℕ → List ℕ → Type 0 where

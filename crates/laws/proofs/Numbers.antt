@@ -12,8 +12,9 @@ use lib.Pow.{high, pow-pos, pow-mono}
 use borrow.Author.Tests.{lt-ltb, le-ltb, ltb-true, ltb-false}
 use Rattle.outline.specs.Lists.{pick, from, total}
 use Rattle.outline.specs.Outline.{size, records, isTaxon}
-use Rattle.outline.specs.Rules.{taxaIn, taxa}
-use Rattle.diversity.specs.Diversity.{chosen, IsSet}
+use Rattle.outline.specs.Refusals.{taxaIn, taxa}
+use Rattle.diversity.specs.Diversity.{chosen}
+use Rattle.diversity.specs.Behind.{IsSet}
 use Rattle.diversity.specs.Search.{leads}
 use Rattle.laws.specs.Candidate.{Value}
 use Rattle.laws.specs.Numbers.{weight, code, decode, worth}

@@ -3,7 +3,7 @@
 use Prim.Native.Nat.{ℕ, zero, suc, _-_, _≤_}
 use mathlib.Core.Path.{_≡_, refl, sym, ap, _∙_}
 use mathlib.Core.Logic.{_⊎_, inl, inr, ⊎-elim, _↔_}
-use mathlib.Core.Bool.{Bool, true, false}
+use mathlib.Core.Bool.{Bool, true, false, _&&_}
 use mathlib.Core.List.{List, [], _∷_, map, foldl, List·Memᴰ, List·Memᴰ·head, List·Memᴰ·tail, List·Memᴰ·cases-cons, List·Memᴰ·not-nil}
 use native.Mathlib.Omega.{arith}
 use lib.Dec.{eqb, leb}
@@ -11,10 +11,9 @@ use lib.ListN.{getD}
 use borrow.Author.Tests.{lt-ltb}
 use Rattle.outline.specs.Lists.{pick}
 use Rattle.outline.specs.Outline.{records, price}
-use Rattle.diversity.specs.Diversity.{chosen, diversity, cost, Fits, IsSet}
-use Rattle.diversity.specs.Search.{subsets, better, Incumbent, nothing, holding, taken, turn, exhaustiveSearch, setOf, optimum}
-use Rattle.diversity.specs.Search.{bestDiversity, leastCost}
-use Rattle.diversity.specs.Behind.{Behind, less-diversity, more-cost, lacks-first}
+use Rattle.diversity.specs.Diversity.{chosen, diversity, cost}
+use Rattle.diversity.specs.Behind.{Fits, IsSet, Behind, less-diversity, more-cost, lacks-first}
+use Rattle.diversity.specs.Search.{subsets, better, Incumbent, nothing, holding, turn, exhaustiveSearch, setOf, optimum, bestDiversity, leastCost}
 use Rattle.laws.specs.Candidate.{Value, beats, Cand, none, some, betterOf, oneAt}
 use Rattle.laws.specs.Numbers.{worth}
 use Rattle.laws.proofs.Order.{more, cheaper, earlier, AtLeast}
@@ -39,38 +38,41 @@ module _ (o : List ℕ) (way b : ℕ) where
   Holds nothing = Unit {0}
   Holds (holding s) = IsSet o s
 
-  worth-pick : (t : Bool) (x y : List ℕ) → worthOf (pick t (holding x) (holding y)) ≡ pick t (some (worth o way x)) (some (worth o way y))
-  unfolding worthOf
-  worth-pick true x y = refl
-  worth-pick false x y = refl
-
-  holds-pick : (t : Bool) (x y : List ℕ) → IsSet o x → IsSet o y → Holds (pick t (holding x) (holding y))
-  unfolding Holds
-  holds-pick true x y m n = m
-  holds-pick false x y m n = n
-
   -- one turn, by whether the set fits
-  turn-worth : (t : Bool) (h : Incumbent) (s : List ℕ) → Holds h → IsSet o s
-      → worthOf (pick t (taken o way h s) h) ≡ betterOf (worthOf h) (pick t (some (worth o way s)) none)
-  unfolding worthOf taken betterOf Holds
-  turn-worth true nothing s p m = refl
-  turn-worth true (holding x) s p m = rw (better-beats o way m p) (worth-pick (beats (worth o way s) (worth o way x)) s x)
-  turn-worth false nothing s p m = refl
-  turn-worth false (holding x) s p m = refl
+  turn-worth : (h : Incumbent) (s : List ℕ) → Holds h → IsSet o s → worthOf (turn o way b h s) ≡ betterOf (worthOf h) (oneAt (worth o way s) b)
+  unfolding worthOf turn betterOf Holds oneAt worth
+  turn-worth nothing s p m = go (leb (cost o s) b)
+    where
+      go : (t : Bool) → worthOf (pick t (holding s) nothing) ≡ pick t (some (worth o way s)) none
+      go true = refl
+      go false = refl
+  turn-worth (holding x) s p m = rw (better-beats o way m p) (go (leb (cost o s) b) (beats (worth o way s) (worth o way x)) refl)
+    where
+      go : (t k : Bool) → beats (worth o way s) (worth o way x) ≡ k
+          → worthOf (pick (t && k) (holding s) (holding x)) ≡ betterOf (some (worth o way x)) (pick t (some (worth o way s)) none)
+      go true true e = rw e
+      go true false e = rw e
+      go false k e = refl
 
-  turn-holds : (t : Bool) (h : Incumbent) (s : List ℕ) → Holds h → IsSet o s → Holds (pick t (taken o way h s) h)
-  unfolding taken Holds
-  turn-holds true nothing s p m = m
-  turn-holds true (holding x) s p m = holds-pick (better o way s x) s x m p
-  turn-holds false h s p m = p
+  turn-holds : (h : Incumbent) (s : List ℕ) → Holds h → IsSet o s → Holds (turn o way b h s)
+  unfolding turn Holds
+  turn-holds nothing s p m = go (leb (cost o s) b)
+    where
+      go : (t : Bool) → Holds (pick t (holding s) nothing)
+      go true = m
+      go false = tt
+  turn-holds (holding x) s p m = go (leb (cost o s) b && better o way s x)
+    where
+      go : (t : Bool) → Holds (pick t (holding s) (holding x))
+      go true = m
+      go false = p
 
   abbrev All : List (List ℕ) → Type 0
   All l = (t : List ℕ) → List·Memᴰ t l → IsSet o t
 
   fold-holds : (h : Incumbent) (l : List (List ℕ)) → Holds h → All l → Holds (foldl (turn o way b) h l)
-  unfolding turn
   fold-holds h [] p m = p
-  fold-holds h (s ∷ l) p m = fold-holds _ l (turn-holds (leb (cost o s) b) h s p (m s (List·Memᴰ·head refl))) (λ t n. m t (List·Memᴰ·tail n))
+  fold-holds h (s ∷ l) p m = fold-holds _ l (turn-holds h s p (m s (List·Memᴰ·head refl))) (λ t n. m t (List·Memᴰ·tail n))
 
   -- the values of a property P, and of the sets of a list
   abbrev Also : (Value → Type 0) → List (List ℕ) → Value → Type 0
@@ -87,17 +89,15 @@ module _ (o : List ℕ) (way b : ℕ) where
 
   turn-best : (P : Value → Type 0) (h : Incumbent) (s : List ℕ) → Holds h → IsSet o s → Best P b (worthOf h)
       → Best (λ v. P v ⊎ (v ≡ worth o way s)) b (worthOf (turn o way b h s))
-  unfolding turn oneAt worth
-  turn-best P h s p m w = rw (turn-worth (leb (cost o s) b) h s p m) (best-either w (best-one (worth o way s) b))
+  turn-best P h s p m w = rw (turn-worth h s p m) (best-either w (best-one (worth o way s) b))
 
   fold-best : (P : Value → Type 0) (h : Incumbent) (l : List (List ℕ)) → Holds h → All l → Best P b (worthOf h)
       → Best (Also P l) b (worthOf (foldl (turn o way b) h l))
-  unfolding turn
   fold-best P h [] p m w = best-same (λ v. inl) (λ v. ⊎-elim (λ x. x) (λ (t, n, e). absurd (List·Memᴰ·not-nil n))) w
   fold-best P h (s ∷ l) p m w =
       best-same (also-cons P s l) (cons-also P s l)
       (fold-best (λ v. P v ⊎ (v ≡ worth o way s)) (turn o way b h s) l
-      (turn-holds (leb (cost o s) b) h s p (m s (List·Memᴰ·head refl))) (λ t n. m t (List·Memᴰ·tail n))
+      (turn-holds h s p (m s (List·Memᴰ·head refl))) (λ t n. m t (List·Memᴰ·tail n))
       (turn-best P h s p (m s (List·Memᴰ·head refl)) w))
 
   -- a list that has every set, and nothing else

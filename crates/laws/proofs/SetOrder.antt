@@ -5,7 +5,7 @@ use mathlib.Core.Logic.{_⊎_, inl, inr}
 use mathlib.Core.Bool.{Bool, true, false}
 use mathlib.Core.List.{List}
 use Rattle.diversity.specs.Search.{better}
-use Rattle.diversity.specs.Diversity.{IsSet}
+use Rattle.diversity.specs.Behind.{IsSet}
 use Rattle.laws.specs.Candidate.{beats}
 use Rattle.laws.specs.Numbers.{worth}
 use Rattle.laws.proofs.Order.{Decided, beats-decides, beats-is, beats-true, beats-trans, beats-not-self, atleast-antisym}

@@ -3,7 +3,7 @@ use Prim.Native.Nat.{ℕ, _+_, _-_, _/_, _%_, _^_}
 use mathlib.Core.List.{List, map}
 use Rattle.outline.specs.Lists.{pick, from, total}
 use Rattle.outline.specs.Outline.{size, records, isTaxon}
-use Rattle.outline.specs.Rules.{taxaIn}
+use Rattle.outline.specs.Refusals.{taxaIn}
 use Rattle.diversity.specs.Diversity.{chosen, diversity, cost}
 use Rattle.laws.specs.Candidate.{Value}
 

@@ -1,7 +1,7 @@
 -- What the finder gives: the record of the one taxon that has the plate, where the outline is accepted and there is one.
 use Prim.Native.Nat.{ℕ, _+_, _*_, _-_, _≤_, _<_}
 use mathlib.Core.Path.{_≡_, refl, sym, _∙_}
-use mathlib.Core.Bool.{Bool, true, false, false≢true}
+use mathlib.Core.Bool.{Bool, true, false, _&&_, not, false≢true}
 use mathlib.Core.List.{List, []}
 use mathlib.Core.Logic.{_↔_}
 use native.Mathlib.Omega.{arith}
@@ -11,8 +11,7 @@ use lib.Dec.{eqb}
 use borrow.Author.Tests.{eqb-true, eqb-false, eq-eqb, ne-eqb}
 use Rattle.outline.specs.Lists.{pick, lowest}
 use Rattle.outline.specs.Outline.{short, long, size, records, plate, isTaxon}
-use Rattle.outline.specs.Rules.{hasPlate}
-use Rattle.outline.specs.Verdict.{isAccepted, bytesOf, found}
+use Rattle.outline.specs.Refusals.{hasPlate, isAccepted, found}
 use Rattle.outline.proofs.Kept.{Kept, accepted-kept}
 use Rattle.outline.proofs.Bools.{both-true}
 use Rattle.outline.proofs.Walk.{lowest-none, lowest-holds}
@@ -93,7 +92,7 @@ module _ (o : List ℕ) (p : ℕ) where
 
   -- the part found is the record of the taxon that has the plate
   pub found-record : isAccepted o ≡ true → (h : Holder o p) → found o p ≡ take 16 (drop (16 * (h .at - 1)) o)
-  unfolding found bytesOf at
+  unfolding found at
   found-record a h = rw (a, at-holder (accepted-kept o a) h, ne-eqb (h .at) 0 (λ z. omega (arith, h .low)))
 
   pub found-carries : isAccepted o ≡ true → Holder o p → Carries p (found o p)
@@ -102,11 +101,11 @@ module _ (o : List ℕ) (p : ℕ) where
 
   -- it is not empty exactly where the outline is accepted and a taxon has the plate
   pub found-exactly : (0 < length (found o p)) ↔ ((isAccepted o ≡ true) × Holder o p)
-  unfolding found bytesOf at
+  unfolding found at
   found-exactly = (λ h. go (isAccepted o) refl (eqb at 0) refl h, λ (a, h). omega (arith, found-carries a h .whole))
     where
       go : (a : Bool) → isAccepted o ≡ a → (z : Bool) → eqb at 0 ≡ z
-          → 0 < length (pick a (pick z [] (take 16 (drop (16 * (at - 1)) o))) []) → (isAccepted o ≡ true) × Holder o p
+          → 0 < length (pick (a && not z) (take 16 (drop (16 * (at - 1)) o)) []) → (isAccepted o ≡ true) × Holder o p
       go true a true z h = absurd (omega arith)
       go true a false z h =
           let (low, high, taxon, plated) = at-holds (eqb-false at 0 z) in

@@ -8,8 +8,8 @@ use lib.ListN.{length}
 use lib.Dec.{eqb, ltb}
 use borrow.Author.Tests.{eqb-true, eqb-false, ltb-true, ltb-false, leb-false, ne-eqb, not-false}
 use Rattle.outline.specs.Outline.{size, records, next, first, branch, price, plate, isTaxon}
-use Rattle.outline.specs.Rules.{badField, stray, named, badLink, taxa, hasPlate, isDuplicate}
-use Rattle.outline.specs.Verdict.{mostRecords, mostTaxa, sizeRows, recordRows, checked, isAccepted}
+use Rattle.outline.specs.Refusals.{badField, stray, named, badLink, taxa, hasPlate, isDuplicate, mostRecords, mostTaxa, sizeRows}
+use Rattle.outline.specs.Refusals.{recordRows, checked, isAccepted}
 use Rattle.outline.proofs.Refusals.{both-pass, row-fails, row-at-fails}
 use Rattle.outline.proofs.Bools.{both-false, second-false}
 use Rattle.outline.proofs.Walk.{lowest-none, anywhere-none}

@@ -8,7 +8,7 @@ use lib.Dec.{eqb}
 use borrow.Author.Tests.{ne-eqb, eqb-true, eqb-false}
 use Rattle.outline.specs.Lists.{pick, lowest}
 use Rattle.outline.specs.Outline.{records}
-use Rattle.outline.specs.Verdict.{Told, passed, refusal, _▸_, row, rowAt}
+use Rattle.outline.specs.Refusals.{Told, passed, refusal, _▸_, row, rowAt}
 use Rattle.outline.specs.declared.verdict.Refusal.{Refusal}
 
 -- every refusal has a number of the table

@@ -3,7 +3,7 @@ use Prim.Native.Nat.{ℕ, _≤_}
 use mathlib.Core.Bool.{Bool}
 use mathlib.Core.List.{List}
 use Rattle.outline.specs.Outline.{size}
-use Rattle.outline.specs.Rules.{badField, badLink, isDuplicate}
+use Rattle.outline.specs.Refusals.{badField, badLink, isDuplicate}
 use Rattle.outline.specs.declared.rules.Rule.{Rule}
 use Rattle.outline.specs.declared.rules.Rule.the-variants.{Field, Link, Duplicate}
 

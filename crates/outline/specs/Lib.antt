@@ -2,5 +2,4 @@
 pub mod Inner
 pub mod Lists
 pub mod Outline
-pub mod Rules
-pub mod Verdict
+pub mod Refusals

@@ -1,6 +1,6 @@
 // Finding the record of a plate.
 ghost use mathlib.Core.Path.{_≡_};
-ghost use Rattle.outline.specs.Verdict.{found};
+ghost use Rattle.outline.specs.Refusals.{found};
 use super::rules::holder_of;
 use super::verdict::Verdict;
 use super::verdict::check;

@@ -4,7 +4,7 @@ ghost use Prim.Native.Nat.{_≤_};
 ghost use Rattle.outline.specs.Lists.{from, lowest};
 ghost use Rattle.outline.specs.Inner.{IsRecord, breaks};
 ghost use Rattle.outline.specs.Outline.{size, records};
-ghost use Rattle.outline.specs.Rules.{badField, stray, naming, named, badLink, taxa, hasPlate, isDuplicate};
+ghost use Rattle.outline.specs.Refusals.{badField, stray, naming, named, badLink, taxa, hasPlate, isDuplicate};
 use super::fields::branch_of;
 use super::fields::first_of;
 use super::fields::is_taxon;

@@ -1,6 +1,6 @@
 // What the check of an outline answers: the first row of the table of refusals that holds, and its place.
 ghost use mathlib.Core.Path.{_≡_};
-ghost use Rattle.outline.specs.Verdict.{told, sizeRows, recordRows, checked};
+ghost use Rattle.outline.specs.Refusals.{told, sizeRows, recordRows, checked};
 use super::rules::Rule;
 use super::rules::broken_at;
 use super::rules::taxa_of;

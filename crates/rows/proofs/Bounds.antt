@@ -6,8 +6,7 @@ use native.Mathlib.Omega.{arith}
 use lib.Pow.{pow-mono}
 use Rattle.outline.specs.Lists.{pick, total}
 use Rattle.outline.specs.Outline.{size, next, first, branch, price, records, isTaxon}
-use Rattle.outline.specs.Rules.{taxa, taxaIn}
-use Rattle.outline.specs.Verdict.{mostRecords, mostTaxa}
+use Rattle.outline.specs.Refusals.{taxa, taxaIn, mostRecords, mostTaxa}
 use Rattle.outline.proofs.Kept.{Linked, Kept}
 use Rattle.laws.specs.Forest.{Forest, empty, node, sumIn, tree}
 use Rattle.laws.specs.Candidate.{Value, Cand}

@@ -9,7 +9,8 @@ use lib.Dec.{eqb}
 use Rattle.outline.specs.Lists.{pick, one, from}
 use Rattle.outline.specs.Outline.{size, first, price, records, isTaxon}
 use Rattle.outline.proofs.Kept.{Linked}
-use Rattle.diversity.specs.Diversity.{IsSet, chosen, diversity, rooted, unrooted, cost}
+use Rattle.diversity.specs.Diversity.{chosen, diversity, rooted, unrooted, cost}
+use Rattle.diversity.specs.Behind.{IsSet}
 use Rattle.diversity.specs.Search.{optimum}
 use Rattle.laws.specs.Forest.{Forest, tree, isGroup}
 use Rattle.laws.specs.Candidate.{Value, nothingWorth, some}

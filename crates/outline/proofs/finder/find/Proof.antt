@@ -5,7 +5,7 @@ use native.Mathlib.Omega.{arith}
 use borrow.Author.Needs.{needs}
 use borrow.Author.Tests.{ne-eqb}
 use Rattle.outline.specs.Outline.{size, records}
-use Rattle.outline.specs.Verdict.{found, bytesOf}
+use Rattle.outline.specs.Refusals.{found}
 use Rattle.outline.proofs.Refusals.{refusal-not-zero}
 use Rattle.outline.proofs.Walk.{lowest-le}
 use Rattle.outline.proofs.finder.find.Statement.{statement}
@@ -16,7 +16,7 @@ found-le : (c : tie.After-holder-of) → c .holder-of .result ≤ size (c .befor
 found-le c = rw (c .holder-of .ensures) (lowest-le _ _)
 
 returns : tie.Need-returns
-unfolding found bytesOf records
+unfolding found records
 returns c =
     let m = c .before .before .before in
     simp (← m .before .before .check .ensures, m .enum-told2 .given .1, ← c .before .before .holder-of .ensures, c .before .if1 .taken)
@@ -35,7 +35,7 @@ unfolding found
 returns-2 c = simp (← c .before .before .before .check .ensures, c .before .enum-told .given .1, refusal-not-zero)
 
 returns-3 : tie.Need-returns-3
-unfolding found bytesOf records
+unfolding found records
 returns-3 c =
     let m = c .before .before .before in
     let r = c .before .before .holder-of .result in

@@ -1,7 +1,7 @@
 -- `outline::rules::bad_link` meets its contract.
 use borrow.Author.Needs.{needs}
 use borrow.Author.Tests.{eq-eqb, ne-eqb}
-use Rattle.outline.specs.Rules.{badLink}
+use Rattle.outline.specs.Refusals.{badLink}
 use Rattle.outline.proofs.rules.bad_link.Statement.{statement}
 use Rattle.outline.proofs.rules.bad_link.Tie as tie
 

@@ -1,6 +1,6 @@
 -- `outline::rules::has_plate` meets its contract.
 use borrow.Author.Needs.{needs}
-use Rattle.outline.specs.Rules.{hasPlate}
+use Rattle.outline.specs.Refusals.{hasPlate}
 use Rattle.outline.proofs.rules.has_plate.Statement.{statement}
 use Rattle.outline.proofs.rules.has_plate.Tie as tie
 

@@ -4,7 +4,7 @@ use native.Mathlib.Omega.{arith}
 use lib.Dec.{eqb}
 use borrow.Author.Needs.{needs}
 use Rattle.outline.specs.Outline.{records, next, first}
-use Rattle.outline.specs.Rules.{naming, named}
+use Rattle.outline.specs.Refusals.{naming, named}
 use Rattle.outline.proofs.Bools.{one-le}
 use Rattle.outline.proofs.Walk.{Summing, summing-starts, summing-goes, summing-ends}
 use Rattle.outline.proofs.rules.named_of.Statement.{statement}

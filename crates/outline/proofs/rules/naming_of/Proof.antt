@@ -2,7 +2,7 @@
 use native.Mathlib.Omega.{arith}
 use lib.Dec.{eqb}
 use borrow.Author.Needs.{needs}
-use Rattle.outline.specs.Rules.{naming}
+use Rattle.outline.specs.Refusals.{naming}
 use Rattle.outline.proofs.Bools.{byte-one, one-le}
 use Rattle.outline.proofs.rules.naming_of.Statement.{statement}
 use Rattle.outline.proofs.rules.naming_of.Tie as tie

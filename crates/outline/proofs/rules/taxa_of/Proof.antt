@@ -4,7 +4,7 @@ use native.Mathlib.Omega.{arith}
 use borrow.Author.Needs.{needs}
 use Rattle.outline.specs.Lists.{one}
 use Rattle.outline.specs.Outline.{isTaxon, records}
-use Rattle.outline.specs.Rules.{taxaIn, taxa}
+use Rattle.outline.specs.Refusals.{taxaIn, taxa}
 use Rattle.outline.proofs.Bools.{byte-one, one-le}
 use Rattle.outline.proofs.Walk.{Summing, summing-starts, summing-goes, summing-ends}
 use Rattle.outline.proofs.rules.taxa_of.Statement.{statement}

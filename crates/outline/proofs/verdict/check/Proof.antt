@@ -1,6 +1,6 @@
 -- `outline::verdict::check` meets its contract: the rows on the size come first.
 use borrow.Author.Needs.{needs}
-use Rattle.outline.specs.Verdict.{checked}
+use Rattle.outline.specs.Refusals.{checked}
 use Rattle.outline.proofs.Refusals.{refusal-not-zero}
 use Rattle.outline.proofs.verdict.check.Statement.{statement}
 use Rattle.outline.proofs.verdict.check.Tie as tie

@@ -6,8 +6,7 @@ use lib.Dec.{ltb}
 use borrow.Author.Needs.{needs}
 use borrow.Author.Tests.{lt-ltb, le-ltb, eq-eqb, ne-eqb}
 use Rattle.outline.specs.Inner.{breaks}
-use Rattle.outline.specs.Rules.{badLink, taxa, isDuplicate}
-use Rattle.outline.specs.Verdict.{Told, _▸_, row, rowAt, mostTaxa, recordRows}
+use Rattle.outline.specs.Refusals.{badLink, taxa, isDuplicate, Told, _▸_, row, rowAt, mostTaxa, recordRows}
 use Rattle.outline.proofs.verdict.check_records.Statement.{statement}
 use Rattle.outline.proofs.verdict.check_records.Tie as tie
 

@@ -1,6 +1,6 @@
 -- `outline::verdict::check_size` meets its contract: the tests on the way to a `return` say which row holds.
 use borrow.Author.Tests.{lt-ltb, le-ltb}
-use Rattle.outline.specs.Verdict.{sizeRows}
+use Rattle.outline.specs.Refusals.{sizeRows}
 use Rattle.outline.proofs.verdict.check_size.Statement.{statement}
 use Rattle.outline.proofs.verdict.check_size.Tie as tie
 
