@@ -1,6 +1,6 @@
 // Outlines: reading their records, checking them, and finding the record of a plate. A buyer calls `check` and `find`,
-// which ask nothing of the caller. `fields` is public for the crates above: a reader of a field requires that the record
-// is there.
+// which ask nothing of the caller. `fields` and `verdict` are public for the crates above; a reader of a field requires
+// that the record is there.
 pub mod fields;
 mod finder;
 mod rules;

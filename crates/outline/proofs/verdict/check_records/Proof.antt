@@ -30,27 +30,30 @@ at6 c = at5 (c .before .before)
 abbrev at7 : tie.After-broken-at3 → List ℕ
 at7 c = at6 (c .before .before)
 
-passed5 : (c : tie.After-broken-at2) → after5 (at5 c) ≡ recordRows (at5 c)
-unfolding recordRows breaks
-passed5 c = simp (← c .before .before .broken-at .ensures, eq-eqb _ _ (c .before .if1 .left))
-
-passed6 : (c : tie.After-taxa-of) → after6 (at6 c) ≡ recordRows (at6 c)
-unfolding breaks
-passed6 c = simp (← c .before .before .broken-at2 .ensures, eq-eqb _ _ (c .before .if2 .left)) at (passed5 (c .before .before))
-
-passed7 : (c : tie.After-broken-at3) → after7 (at7 c) ≡ recordRows (at7 c)
-passed7 c = simp (← c .before .before .taxa-of .ensures, le-ltb _ _ (c .before .if3 .left)) at (passed6 (c .before .before))
-
 returns : tie.Need-returns
 unfolding recordRows breaks
 returns c = simp (← c .before .broken-at .ensures, ne-eqb _ _ (c .if1 .taken))
+
+-- row 5 passed
+passed5 : (c : tie.After-broken-at2) → after5 (at5 c) ≡ recordRows (at5 c)
+unfolding recordRows breaks
+passed5 c = simp (← c .before .before .broken-at .ensures, eq-eqb _ _ (c .before .if1 .left))
 
 returns-2 : tie.Need-returns-2
 unfolding breaks
 returns-2 c = simp (← c .before .broken-at2 .ensures, ne-eqb _ _ (c .if2 .taken)) at (passed5 (c .before))
 
+-- row 6 passed too
+passed6 : (c : tie.After-taxa-of) → after6 (at6 c) ≡ recordRows (at6 c)
+unfolding breaks
+passed6 c = simp (← c .before .before .broken-at2 .ensures, eq-eqb _ _ (c .before .if2 .left)) at (passed5 (c .before .before))
+
 returns-3 : tie.Need-returns-3
 returns-3 c = simp (← c .before .taxa-of .ensures, lt-ltb _ _ (c .if3 .taken)) at (passed6 (c .before))
+
+-- and row 7
+passed7 : (c : tie.After-broken-at3) → after7 (at7 c) ≡ recordRows (at7 c)
+passed7 c = simp (← c .before .before .taxa-of .ensures, le-ltb _ _ (c .before .if3 .left)) at (passed6 (c .before .before))
 
 returns-4 : tie.Need-returns-4
 unfolding breaks
