@@ -13,3 +13,4 @@ pub mod Order
 pub mod SetOrder
 pub mod Spare
 pub mod Sums
+pub mod Weights

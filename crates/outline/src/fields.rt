@@ -6,7 +6,7 @@ ghost use Rattle.outline.specs.Inner.{IsRecord};
 ghost use Rattle.outline.specs.Outline.{short, long, next, first, branch, price, plate, isTaxon};
 
 // The number of two bytes at a place.
-fn short_at(o: &[u8], at: usize) -> u16
+pub fn short_at(o: &[u8], at: usize) -> u16
     requires { ⌜ at + 1 < length (now o) ⌝ }
     ensures { λ v. ⌜ v ≡ short (now (o .entry)) at ⌝ }
 {

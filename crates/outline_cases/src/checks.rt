@@ -1,14 +1,14 @@
 // Cases of the check.
-use super::outlines::blank;
-use super::outlines::comb;
-use super::outlines::one_record;
-use super::outlines::put;
-use super::outlines::star;
-use super::outlines::tree_a;
-use super::outlines::tree_a_with;
 use super::show::changed;
 use super::show::check;
 use super::show::check_bytes;
+use samples::outlines::blank;
+use samples::outlines::comb;
+use samples::outlines::one_record;
+use samples::outlines::put;
+use samples::outlines::star;
+use samples::outlines::tree_a;
+use samples::outlines::tree_a_with;
 
 pub fn sizes() {
     let buffer = one_record([0, 0, 5, 1, 7]);
@@ -16,10 +16,10 @@ pub fn sizes() {
     check_bytes(b"15 bytes", &buffer, 15);
     check_bytes(b"16 bytes, one taxon", &buffer, 16);
     check_bytes(b"17 bytes", &buffer, 17);
-    check(b"127 records", &comb(127), 127);
-    check(b"128 records", &comb(128), 128);
-    check(b"64 taxa", &star(65), 65);
-    check(b"65 taxa", &star(66), 66);
+    check(b"127 records", &comb(127, 0, 0), 127);
+    check(b"128 records", &comb(128, 0, 0), 128);
+    check(b"64 taxa", &star(65, 0, 0), 65);
+    check(b"65 taxa", &star(66, 0, 0), 66);
 }
 
 // Each field at the ends of its range. 16,777,216 is 0 in all bytes but its last.
@@ -108,12 +108,16 @@ pub fn places() {
 
 // Of several refusals that hold the one with the lowest number is given, whatever the records' numbers.
 pub fn order() {
-    check_bytes(b"part of a record after 128 records", &comb(128), 2049);
+    check_bytes(
+        b"part of a record after 128 records",
+        &comb(128, 0, 0),
+        2049,
+    );
     check(b"128 records of zeros", &blank(), 128);
     let mut buffer = tree_a_with(2, [5, 2, 3, 0, 0]);
     put(&mut buffer, 5, [0, 0, 5, 2, 0]);
     check(b"bad link in record 2, bad field in record 5", &buffer, 5);
-    let mut many = star(66);
+    let mut many = star(66, 0, 0);
     put(&mut many, 66, [67, 0, 0, 0, 66]);
     check(b"65 taxa, bad link in record 66", &many, 66);
     put(&mut many, 66, [0, 0, 0, 0, 2]);
@@ -128,11 +132,11 @@ pub fn plates_alike() {
     let mut three = tree_a_with(4, [0, 0, 2, 1, 11]);
     put(&mut three, 5, [0, 0, 5, 2, 11]);
     check(b"plate 11 at 3, 4 and 5", &three, 5);
-    let mut pairs = star(5);
+    let mut pairs = star(5, 0, 0);
     put(&mut pairs, 4, [5, 0, 0, 0, 3]);
     put(&mut pairs, 5, [0, 0, 0, 0, 2]);
     check(b"plate 2 at 2 and 5, plate 3 at 3 and 4", &pairs, 5);
-    let mut many = star(65);
+    let mut many = star(65, 0, 0);
     put(&mut many, 65, [0, 0, 0, 0, 2]);
     check(b"64 taxa, two plates alike", &many, 65);
     changed(b"plates 11 and 16,777,227", 4, [0, 0, 2, 1, 16777227]);

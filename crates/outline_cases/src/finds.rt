@@ -1,10 +1,10 @@
 // Cases of finding a plate's record.
-use super::outlines::comb;
-use super::outlines::one_record;
-use super::outlines::star;
-use super::outlines::tree_a;
-use super::outlines::tree_a_with;
 use super::show::find;
+use samples::outlines::comb;
+use samples::outlines::one_record;
+use samples::outlines::star;
+use samples::outlines::tree_a;
+use samples::outlines::tree_a_with;
 
 // In tree A first. Plate 0 is no taxon's, though it stands in the groups.
 pub fn in_accepted() {
@@ -18,18 +18,18 @@ pub fn in_accepted() {
     let highest = one_record([0, 0, 1000000, 65535, 4294967295]);
     find(b" in one taxon", &highest, 16, 4294967295);
     find(b" in one taxon", &highest, 16, 65535);
-    find(b" among 64 taxa", &star(65), 1040, 65);
+    find(b" among 64 taxa", &star(65, 0, 0), 1040, 65);
 }
 
 // A refused outline gives nothing, though the plate is there.
 pub fn in_refused() {
     find(b" in 81 bytes", &tree_a(), 81, 11);
-    find(b" in 128 records", &comb(128), 2048, 2);
+    find(b" in 128 records", &comb(128, 0, 0), 2048, 2);
     let field = tree_a_with(5, [0, 0, 5, 65536, 13]);
     find(b" beside a bad field", &field, 80, 11);
     let link = tree_a_with(5, [6, 0, 5, 2, 13]);
     find(b" beside a bad link", &link, 80, 11);
-    find(b" among 65 taxa", &star(66), 1056, 2);
+    find(b" among 65 taxa", &star(66, 0, 0), 1056, 2);
     let alike = tree_a_with(5, [0, 0, 5, 2, 12]);
     find(b" beside two plates alike", &alike, 80, 11);
 }

@@ -3,7 +3,6 @@
 // and the fields of the record found: next, first, length, price, plate.
 mod checks;
 mod finds;
-mod outlines;
 mod show;
 
 fn main() {

@@ -1,46 +1,24 @@
 // The line that is printed for a case.
 ghost use Prim.Native.Nat.{_≤_};
-use super::outlines::Buffer;
-use super::outlines::tree_a_with;
-use libc::STDOUT_FILENO;
 use outline::fields::branch_of;
 use outline::fields::first_of;
 use outline::fields::next_of;
 use outline::fields::plate_of;
 use outline::fields::price_of;
-use outline::verdict::Refusal;
 use outline::verdict::Verdict;
+use samples::outlines::Buffer;
+use samples::outlines::first_bytes;
+use samples::outlines::tree_a_with;
+use samples::words::say;
+use samples::words::say_number;
+use samples::words::say_pair;
+use samples::words::say_refusal;
 
-fn say(text: &[u8]) {
-    io::write_all(STDOUT_FILENO, text);
-}
-
-fn say_number(n: u64) {
-    io::print_decimal(STDOUT_FILENO, n);
-}
-
-// Two numbers with a blank between.
-fn say_pair(a: u64, b: usize) {
-    say_number(a);
-    say(b" ");
-    say_number(b as u64);
-}
-
-// The number and the place that the table of refusals gives.
+// The number and the place that the check gives, `0 0` if it accepts.
 fn say_verdict(verdict: Verdict) {
     match verdict {
         Verdict::Accepted => say_pair(0, 0),
-        Verdict::Refused(refusal) => match refusal {
-            Refusal::UnknownWay => say_pair(1, 0),
-            Refusal::PartialRecord => say_pair(2, 0),
-            Refusal::TooManyRecords => say_pair(3, 0),
-            Refusal::CountTooLarge => say_pair(4, 0),
-            Refusal::FieldOutOfRange(r) => say_pair(5, r),
-            Refusal::BadLink(r) => say_pair(6, r),
-            Refusal::TooManyTaxa => say_pair(7, 0),
-            Refusal::DuplicatePlate(r) => say_pair(8, r),
-            Refusal::BufferTooShort => say_pair(9, 0),
-        },
+        Verdict::Refused(refusal) => say_refusal(refusal),
     }
 }
 
@@ -59,14 +37,6 @@ fn say_part(part: &[u8]) {
     say_pair(branch_of(part, 1) as u64, price_of(part, 1) as usize);
     say(b" ");
     say_number(plate_of(part, 1) as u64);
-}
-
-fn first_bytes(buffer: &Buffer, bytes: usize) -> &[u8]
-    requires { ⌜ bytes ≤ 2064 ⌝ }
-{
-    // The borrow checker takes a part of a slice here, and none of an array behind a reference.
-    let whole = &buffer[..];
-    &whole[0..bytes]
 }
 
 // The check of the first bytes.

@@ -15,7 +15,7 @@ use Rattle.laws.proofs.Sums.{total-ext, total-most}
 use Rattle.laws.proofs.Forest.{tree-step, sum-part}
 use Rattle.laws.proofs.Best.{From, nothing, this, from-better, from-same}
 use Rattle.laws.proofs.Numbers.{weights-below}
-use Rattle.rows.specs.Rows.{Row, betterRow, isLeaf, taxonRooted, cladeRow, pushed, rootedRow, crossRow}
+use Rattle.rows.specs.Rows.{Row, betterRow, isLeaf, taxonRooted, cladeRow, pushed, rootedRow}
 use Rattle.rows.proofs.BestRows.{from-charge, from-join-row}
 use Rattle.rows.proofs.Steps.{leaf-taxon}
 
@@ -66,13 +66,6 @@ module _ (o : List ℕ) (weigh : ℕ → ℕ) where
       small-more _ _ (omega arith) (omega arith)
       (pushed-small F 0 0 b (λ i l. this (record { diversity-most = omega arith; code-most = omega arith }) (omega arith)) b (omega arith))
 
-  pub cross-small : (r : ℕ) (f n : Forest) (b : ℕ)
-      → From (Small (branches o (node r f n)) (codes weigh (node r f n))) b (crossRow o weigh r (isLeaf f) f n b)
-  unfolding crossRow
-  cross-small r f n b =
-      let rest : SmallRow (branches o n) (codes weigh n) b (rootedRow o weigh n) = λ i l. rooted-small n i in
-      small-more _ _ (omega arith) (omega arith) (clade-small r f _ _ _ b rest (pushed-small f _ _ b rest b (omega arith)))
-
 -- the same by links, and against the sums over all records
 module _ (o : List ℕ) (linked : Linked o) (r : ℕ) (u : r ≤ size o) where
   pub branches-most : branches o (tree o r) ≤ total (branch o) (records o)
@@ -95,27 +88,6 @@ module _ (o : List ℕ) (linked : Linked o) (weigh : ℕ → ℕ) (r : ℕ) (u :
   module _ (l : 1 ≤ r) where
     pub codes-step : codes weigh (tree o r) ≡ pick (isTaxon o r) (weigh r) 0 + (codes weigh (tree o (first o r)) + codes weigh (tree o (next o r)))
     codes-step = ap (codes weigh) (tree-step o linked r l u) ∙ rw (leaf-taxon o linked r l u)
-
--- the row's candidates stay small enough, below d and m, for all branches and codes of a forest to be added
-abbrev pub HasRoom : List ℕ → (ℕ → ℕ) → ℕ → ℕ → Forest → ℕ → Row → Type 0
-HasRoom o weigh d m F n x = SmallRow (d - branches o F) (m - codes weigh F) n x
-
--- where what may follow r's chain has room for the chain: so has what may follow the rest of the chain, and what may follow
--- r's clade has room for r's members; and what is pushed through the chain is below d and m
-module _ (o : List ℕ) (linked : Linked o) (weigh : ℕ → ℕ) (r : ℕ) (u : r ≤ size o) (l : 1 ≤ r)
-    (d m : ℕ) (hd : branches o (tree o r) ≤ d) (hm : codes weigh (tree o r) ≤ m) (n : ℕ) {x : Row} (room : HasRoom o weigh d m (tree o r) n x) where
-  pub rest-has-room : HasRoom o weigh d m (tree o (next o r)) n x
-  rest-has-room b h = small-more _ _ (omega (arith, branches-step o linked r u l)) (omega (arith, codes-step o linked weigh r u l)) (room b h)
-
-  pub follow-has-room : HasRoom o weigh (d - branch o r) (m - pick (isTaxon o r) (weigh r) 0) (tree o (first o r)) n (betterRow x (pushed o weigh (tree o (next o r)) x))
-  follow-has-room b h =
-      let ds = branches-step o linked r u l in
-      let ms = codes-step o linked weigh r u l in
-      from-better (small-more _ _ (omega arith) (omega arith) (room b h))
-      (small-more _ _ (omega arith) (omega arith) (pushed-small o weigh (tree o (next o r)) _ _ n room b h))
-
-  pub pushed-fits-room : SmallRow d m n (pushed o weigh (tree o r) x)
-  pushed-fits-room b h = small-more _ _ (omega arith) (omega arith) (pushed-small o weigh (tree o r) _ _ n room b h)
 
 -- what an accepted outline allows: 127 records with branches of a million, 64 taxa
 module _ (o : List ℕ) (kept : Kept o) (r : ℕ) (u : r ≤ size o) where

@@ -1,0 +1,105 @@
+-- What a call keeps that no row of the table refuses, and the two ways to answer a call.
+use Prim.Native.Nat.{ℕ, _≤_}
+use mathlib.Core.Path.{_≡_, refl, sym}
+use mathlib.Core.Logic.{_⊎_, inl, inr}
+use mathlib.Core.Bool.{Bool, true, false, _&&_, not, false≢true}
+use mathlib.Core.List.{List, _++_}
+use native.Mathlib.Omega.{arith}
+use lib.Dec.{eqb}
+use lib.ListN.{length, take, drop, length-replicate}
+use lib.Seq.{length-take-le}
+use borrow.Author.Tests.{ltb-false, eqb-true}
+use Rattle.outline.specs.Refusals.{refusal, sizeRows, recordRows}
+use Rattle.outline.specs.declared.verdict.Refusal.{Refusal}
+use Rattle.outline.proofs.Bools.{both-false}
+use Rattle.outline.proofs.Refusals.{both-pass, row-fails, refusal-not-zero}
+use Rattle.outline.proofs.Kept.{rows-kept}
+use Rattle.choice.specs.Answer.{Call, Answered, mostCount, workTaken, tooShort, judged, isSelected, selected, reply}
+use Rattle.choice.specs.Answer.{curveOf, over, marksAfter, curveAfter, workAfter}
+use Rattle.choice.specs.Inner.{Solvable, Solved}
+use Rattle.choice.specs.declared.answer.Answer.{Answer}
+
+module _ (c : Call) where
+  -- the rows, one by one, where none holds
+  record Passes : Type 0 where
+    ways : (not (eqb (c .way) 0) && not (eqb (c .way) 1)) ≡ false
+    sizes : sizeRows (c .outline) .number ≡ 0
+    low : c .count ≤ mostCount
+    rows : recordRows (c .outline) .number ≡ 0
+    long : tooShort c ≡ false
+
+  rows-pass : isSelected c ≡ true → Passes
+  unfolding judged
+  rows-pass e =
+      let one = both-pass _ _ (eqb-true _ _ e) in
+      let three = both-pass _ _ (one .1) in
+      let four = both-pass _ _ (three .1) in
+      let eight = both-pass _ _ (four .1) in
+      record {
+        ways = row-fails _ _ (one .0);
+        sizes = three .0;
+        low = ltb-false _ _ (row-fails _ _ (four .0));
+        rows = eight .0;
+        long = row-fails _ _ (eight .1);
+      }
+
+  pub way-known : isSelected c ≡ true → (c .way ≡ 0) ⊎ (c .way ≡ 1)
+  way-known e = go (eqb (c .way) 0) refl (eqb (c .way) 1) refl (rows-pass e .ways)
+    where
+      go : (a : Bool) → eqb (c .way) 0 ≡ a → (b : Bool) → eqb (c .way) 1 ≡ b → (not a && not b) ≡ false → (c .way ≡ 0) ⊎ (c .way ≡ 1)
+      go true p b q h = inl (eqb-true _ _ p)
+      go false p true q h = inr (eqb-true _ _ q)
+      go false p false q h = absurd (false≢true (sym h))
+
+  pub selected-solvable : isSelected c ≡ true → Solvable c
+  unfolding tooShort
+  selected-solvable e =
+      let p = rows-pass e in
+      let short = both-false _ _ (p .long) in
+      let rest = both-false _ _ (short .1) in
+      record {
+        kept = rows-kept (c .outline) (p .sizes) (p .rows);
+        low = p .low;
+        marks-long = ltb-false _ _ (short .0);
+        curve-long = ltb-false _ _ (rest .0);
+        work-long = ltb-false _ _ (rest .1);
+      }
+
+  -- the call with the first n numbers of work
+  abbrev pub lending : ℕ → Call
+  lending n = record { outline = c .outline; count = c .count; way = c .way; marks = c .marks; curve = c .curve; work = take n (c .work) }
+
+  module _ (e : isSelected c ≡ true) (n : ℕ) (taken : n ≡ workTaken (c .outline) (c .count)) where
+    pub lent-inside : n ≤ length (c .work)
+    lent-inside = omega (arith, selected-solvable e .work-long)
+
+    pub lent-long : length (take n (c .work)) ≡ n
+    lent-long = length-take-le n (c .work) lent-inside
+
+    pub lent-solvable : Solvable (lending n)
+    lent-solvable =
+        let s = selected-solvable e in
+        record { kept = s .kept; low = s .low; marks-long = s .marks-long; curve-long = s .curve-long; work-long = omega (arith, lent-long) }
+
+    -- a selection
+    pub solved-answered : {answer : Answer} {marks curve work : List ℕ} → Solved (lending n) answer marks curve work
+        → Answered c answer marks curve (work ++ drop n (c .work))
+    unfolding reply marksAfter curveAfter workAfter selected curveOf over
+    solved-answered s = record {
+      told-reply = rw e (s .told-selected);
+      marks-written = rw e (s .marks-written);
+      curve-written = rw e (s .curve-written);
+      work-cleared = rw (e, s .work-cleared, lent-long, ← taken, length-replicate);
+    }
+
+  -- a refusal
+  pub refused-answered : (e : Refusal) → refusal e ≡ judged c → Answered c (Answer.Refused e) (c .marks) (c .curve) (c .work)
+  unfolding reply marksAfter curveAfter workAfter
+  refused-answered e h =
+      let number : isSelected c ≡ false = rw (← h) (refusal-not-zero e) in
+      record {
+        told-reply = rw (number, h);
+        marks-written = rw number;
+        curve-written = rw number;
+        work-cleared = rw number;
+      }

@@ -1,0 +1,84 @@
+-- The columns of a curve, number by number, and reading them leftwards.
+use Prim.Native.Nat.{ℕ, zero, suc, _+_, _*_, _-_, _≤_, _<_}
+use mathlib.Core.Path.{_≡_, refl, sym, ap, _∙_}
+use mathlib.Core.List.{List}
+use native.Mathlib.Omega.{arith}
+use lib.ListN.{length, getD, set}
+use borrow.Author.Tests.{eq-eqb, ne-eqb}
+use Rattle.outline.specs.Lists.{from}
+use Rattle.diversity.specs.Search.{columnsAlike}
+use Rattle.choice.specs.Answer.{columns, over}
+use Rattle.choice.proofs.Buffers.{Rising, rising-starts, rising-goes, rising-ends}
+
+module _ (d c : ℕ → ℕ) where
+  pub columns-long : (k n : ℕ) → length (columns d c (from k n)) ≡ 2 * n
+  unfolding columns from
+  columns-long k zero = refl
+  columns-long k (suc n) = omega (arith, columns-long (k + 1) n)
+
+  columns-two : (k n j : ℕ) → j < n
+      → (getD (columns d c (from k n)) (2 * j) 0 ≡ d (k + j)) × (getD (columns d c (from k n)) (2 * j + 1) 0 ≡ c (k + j))
+  unfolding columns from
+  columns-two k zero j h = absurd (omega arith)
+  columns-two k (suc n) zero h = let e : k ≡ k + 0 = omega arith in (ap d e, ap c e)
+  columns-two k (suc n) (suc j) h =
+      let ih = columns-two (k + 1) n j (omega arith) in
+      let e : k + 1 + j ≡ k + suc j = omega arith in
+      let even : 2 * suc j ≡ suc (suc (2 * j)) = omega arith in
+      let odd : 2 * suc j + 1 ≡ suc (suc (2 * j + 1)) = omega arith in
+      (rw even (ih .0 ∙ ap d e), rw odd (ih .1 ∙ ap c e))
+
+  -- column j of those from 0 on
+  pub column-diversity : (n j : ℕ) → j < n → getD (columns d c (from 0 n)) (2 * j) 0 ≡ d j
+  column-diversity n j h = columns-two 0 n j h .0 ∙ ap d (omega arith)
+
+  pub column-cost : (n j : ℕ) → j < n → getD (columns d c (from 0 n)) (2 * j + 1) 0 ≡ c j
+  column-cost n j h = columns-two 0 n j h .1 ∙ ap c (omega arith)
+
+  -- a loop's invariant: the first b columns of n are written
+  abbrev pub Drawing : ℕ → List ℕ → List ℕ → ℕ → Type 0
+  Drawing n buffer now b = Rising (columns d c (from 0 n)) buffer now (2 * b)
+
+  pub drawing-starts : (n : ℕ) {buffer : List ℕ} → 2 * n ≤ length buffer → Drawing n buffer buffer 0
+  drawing-starts n h = rising-starts (omega (arith, columns-long 0 n))
+
+  pub drawing-goes : {n b : ℕ} {buffer now : List ℕ} {v w : ℕ} → Drawing n buffer now b → b < n → v ≡ d b → w ≡ c b
+      → Drawing n buffer (set (set now (2 * b) v) (2 * b + 1) w) (b + 1)
+  drawing-goes {n} {b} h l e f =
+      let even : 2 * b < length (columns d c (from 0 n)) = omega (arith, columns-long 0 n) in
+      let odd : 2 * b + 1 < length (columns d c (from 0 n)) = omega (arith, columns-long 0 n) in
+      let step : 2 * (b + 1) ≡ 2 * b + 1 + 1 = omega arith in
+      rw step (rising-goes (rising-goes h even (e ∙ sym (column-diversity n b l))) odd (f ∙ sym (column-cost n b l)))
+
+  pub drawing-ends : {n b : ℕ} {buffer now : List ℕ} → Drawing n buffer now b → n ≤ b → now ≡ over (columns d c (from 0 n)) buffer
+  drawing-ends {n} h l = rising-ends h (omega (arith, columns-long 0 n))
+
+-- a loop's invariant: the columns from b up to n have diversity d
+pub record Level (curve : ℕ → ℕ) (d n b : ℕ) : Type 0 where
+  pub most : b ≤ n
+  pub whole : columnsAlike curve d n ≡ n - b + columnsAlike curve d b
+
+pub level-starts : (curve : ℕ → ℕ) (d n : ℕ) → Level curve d n n
+level-starts curve d n = record { most = omega arith; whole = omega arith }
+
+module _ {curve : ℕ → ℕ} {d n b : ℕ} (h : Level curve d n b) (nz : b ≡ 0 → ⊥) where
+  before : columnsAlike curve d b ≡ columnsAlike curve d (suc (b - 1))
+  before = ap (columnsAlike curve d) (omega arith)
+
+  pub level-goes : curve (b - 1) ≡ d → Level curve d n (b - 1)
+  unfolding columnsAlike
+  level-goes e =
+      let step : columnsAlike curve d b ≡ suc (columnsAlike curve d (b - 1)) = before ∙ rw (eq-eqb (curve (b - 1)) d e) in
+      record { most = omega (arith, h .most); whole = omega (arith, h .most, h .whole) }
+
+  -- it ends where the diversity drops
+  pub level-drops : (curve (b - 1) ≡ d → ⊥) → n - b ≡ columnsAlike curve d n
+  unfolding columnsAlike
+  level-drops e =
+      let none : columnsAlike curve d b ≡ 0 = before ∙ rw (ne-eqb (curve (b - 1)) d e) in
+      omega (arith, h .whole)
+
+-- or at column 0
+pub level-ends : {curve : ℕ → ℕ} {d n b : ℕ} → Level curve d n b → b ≡ 0 → n - 0 ≡ columnsAlike curve d n
+unfolding columnsAlike
+level-ends {curve} {d} {n} {b} h z = let none : columnsAlike curve d b ≡ 0 = ap (columnsAlike curve d) z in omega (arith, h .whole)

@@ -1,0 +1,171 @@
+-- A filled table read out: its top row is the curve, and its last column the best set.
+use Prim.Native.Nat.{ℕ, zero, suc, _+_, _*_, _-_, _/_, _%_, _≤_, _<_}
+use mathlib.Core.Path.{_≡_, refl, ap, _∙_}
+use mathlib.Core.Bool.{Bool, true, false, _&&_}
+use mathlib.Core.List.{List}
+use native.Mathlib.Omega.{arith}
+use native.Mathlib.Nat.{mul-le-mul-right}
+use lib.Dec.{eqb}
+use lib.ListN.{length, getD, drop, replicate, List·getD-append}
+use Rattle.outline.specs.Lists.{pick, one, from}
+use Rattle.outline.specs.Outline.{size, records, branch}
+use Rattle.outline.specs.Refusals.{mostRecords}
+use Rattle.outline.proofs.Kept.{Kept}
+use Rattle.diversity.specs.Diversity.{chosen, within, elsewhere, rooted, unrooted, diversity, chosenTaxa}
+use Rattle.diversity.specs.Behind.{IsSet}
+use Rattle.diversity.specs.Search.{optimum, bestDiversity, leastCost, columnsAlike, spare}
+use Rattle.laws.specs.Candidate.{Value, none, some}
+use Rattle.laws.specs.Numbers.{decode, worth}
+use Rattle.laws.proofs.Sums.{total-ext, total-most}
+use Rattle.laws.proofs.Optimum.{optimum-set, optimum-fits}
+use Rattle.laws.proofs.Numbers.{decode-code}
+use Rattle.table.specs.Cells.{unit, seen, view, diversityOf, costOf, codeOf, cell}
+use Rattle.table.specs.Table.{Filled}
+use Rattle.table.specs.declared.candidate.Candidate.{Candidate}
+use Rattle.choice.specs.Answer.{Call, Reply, bestSet, selected, columns, curveOf, over}
+use Rattle.choice.specs.Inner.{topDiversity, topCost, Drawable, drawnDiversity, Solvable, Solved}
+use Rattle.choice.specs.declared.answer.Answer.{Answer}
+use Rattle.choice.proofs.Columns.{columns-long, column-diversity, column-cost}
+
+-- ---- how large the numbers are
+pick-most : (b : Bool) (n : ℕ) → pick b n 0 ≤ n
+pick-most true n = omega arith
+pick-most false n = omega arith
+
+-- 127 records with branches of a million
+pub diversity-most : (o : List ℕ) → Kept o → (way : ℕ) (s : List ℕ) → diversity o way s ≤ mostRecords * 1000000
+unfolding diversity rooted unrooted records
+diversity-most o kept way s = go (eqb way 0)
+  where
+    bounded : (p : ℕ → Bool) (r : ℕ) → 1 ≤ r → r < 1 + size o → pick (p r) (branch o r) 0 ≤ 1000000
+    bounded p r l u = omega (arith, pick-most (p r) (branch o r), kept .ranged r l (omega arith) .branch-most)
+
+    go : (b : Bool) → pick b (rooted o s) (unrooted o s) ≤ mostRecords * 1000000
+    go true = omega (arith, kept .size-most, total-most _ 1000000 1 (size o) (bounded (within o s)))
+    go false = omega (arith, kept .size-most, total-most _ 1000000 1 (size o) (bounded (λ r. within o s r && elsewhere o s r)))
+
+pub alike-most : (curve : ℕ → ℕ) (d n : ℕ) → columnsAlike curve d n ≤ n
+unfolding columnsAlike
+alike-most curve d zero = omega arith
+alike-most curve d (suc n) = go (eqb (curve n) d) (alike-most curve d n)
+  where
+    go : {k : ℕ} (b : Bool) → k ≤ n → pick b (suc k) 0 ≤ suc n
+    go true h = omega arith
+    go false h = omega arith
+
+-- ---- columns that agree up to n
+alike-ext : (f g : ℕ → ℕ) (d n : ℕ) → ((b : ℕ) → b < n → f b ≡ g b) → columnsAlike f d n ≡ columnsAlike g d n
+unfolding columnsAlike
+alike-ext f g d zero h = refl
+alike-ext f g d (suc n) h = rw (h n (omega arith), alike-ext f g d n (λ b l. h b (omega arith)))
+
+columns-ext : (d c e f : ℕ → ℕ) (k n : ℕ) → ((b : ℕ) → b < k + n → (d b ≡ e b) × (c b ≡ f b))
+    → columns d c (from k n) ≡ columns e f (from k n)
+unfolding columns from
+columns-ext d c e f k zero h = refl
+columns-ext d c e f k (suc n) h =
+    let same = h k (omega arith) in
+    rw (same .0, same .1, columns-ext d c e f (k + 1) n (λ b l. h b (omega arith)))
+
+-- ---- what is written over a buffer, read again
+over-at : (text buffer : List ℕ) (i : ℕ) → i < length text → getD (over text buffer) i 0 ≡ getD text i 0
+unfolding over
+over-at text buffer i h = List·getD-append text (drop (length text) buffer) 0 i h
+
+taxa-over : (o s buffer : List ℕ) → IsSet o s → chosenTaxa o (over s buffer) ≡ chosenTaxa o s
+unfolding chosenTaxa records chosen
+taxa-over o s buffer x = total-ext _ _ 1 (size o) (λ r l u. ap (λ (k : ℕ). one (eqb k 1)) (over-at s buffer (r - 1) (omega (arith, x .whole))))
+
+-- ---- the curve, column by column, also where it is written over a buffer
+module _ (c : Call) where
+  pub curve-long : length (curveOf c) ≡ 2 * (c .count + 1)
+  unfolding curveOf
+  curve-long = columns-long _ _ 0 (c .count + 1)
+
+  module _ (buffer : List ℕ) (b : ℕ) (h : b ≤ c .count) where
+    pub curve-diversity : drawnDiversity (over (curveOf c) buffer) b ≡ bestDiversity (c .outline) (c .way) b
+    unfolding curveOf
+    curve-diversity = over-at (curveOf c) buffer (2 * b) (omega (arith, curve-long)) ∙ column-diversity _ _ (c .count + 1) b (omega arith)
+
+    pub curve-cost : getD (over (curveOf c) buffer) (2 * b + 1) 0 ≡ leastCost (c .outline) (c .way) b
+    unfolding curveOf
+    curve-cost = over-at (curveOf c) buffer (2 * b + 1) (omega (arith, curve-long)) ∙ column-cost _ _ (c .count + 1) b (omega arith)
+
+  -- and read leftwards
+  curve-spare : (buffer : List ℕ)
+      → columnsAlike (drawnDiversity (over (curveOf c) buffer)) (drawnDiversity (over (curveOf c) buffer) (c .count)) (c .count)
+      ≡ spare (c .outline) (c .way) (c .count)
+  unfolding spare
+  curve-spare buffer =
+      ap (λ d. columnsAlike (drawnDiversity (over (curveOf c) buffer)) d (c .count)) (curve-diversity buffer (c .count) (omega arith))
+      ∙ alike-ext _ _ _ (c .count) (λ b l. curve-diversity buffer b (omega arith))
+
+-- ---- the set of a candidate
+set-of : (score set : ℕ) {v : Value} → seen score set ≡ some v → set ≡ v .code
+unfolding seen codeOf
+set-of score set {v} e = go (eqb score 0) e
+  where
+    go : (b : Bool) → pick b none (some (record { diversity = (score - 1) / unit; cost = unit - 1 - (score - 1) % unit; code = set })) ≡ some v
+        → set ≡ v .code
+    go true e = let z : _≡_ {A = ℕ} 0 1 = cc in absurd (omega arith)
+    go false e = ap codeOf e
+
+-- a selection, by its numbers
+abbrev selection : ℕ → ℕ → ℕ → ℕ → Reply
+selection d k t l = record { number = 0; place = 0; diversity = d; cost = k; taxa = t; spare = l }
+
+reply-path : {d e k m t u l n : ℕ} → d ≡ e → k ≡ m → t ≡ u → l ≡ n → selection d k t l ≡ selection e m u n
+reply-path p q r s = rw (p, q, r, s)
+
+module _ (c : Call) (s : Solvable c) (table : List ℕ) (filled : Filled (c .outline) (c .way) (c .count + 1) table) where
+  -- the top row is the curve
+  top-column : (b : ℕ) → b < 0 + (c .count + 1) → (topDiversity table (c .count + 1) b ≡ bestDiversity (c .outline) (c .way) b)
+      × (topCost table (c .count + 1) b ≡ leastCost (c .outline) (c .way) b)
+  unfolding diversityOf costOf worth bestDiversity leastCost
+  top-column b h = let e = filled .row b (omega arith) in (ap diversityOf e, ap costOf e)
+
+  pub table-drawable : length table ≡ length (c .work) → Drawable table (c .count + 1) (c .curve)
+  unfolding bestDiversity leastCost
+  table-drawable same = record {
+    inside =
+        let rows : 3 ≤ size (c .outline) + 2 = omega (arith, s .kept .linked .filled) in
+        omega (arith, s .work-long, mul-le-mul-right (c .count + 1) rows);
+    room = s .curve-long;
+    diversity-fits = λ b h.
+        omega (arith, top-column b (omega arith), diversity-most (c .outline) (s .kept) (c .way) (optimum (c .outline) (c .way) b));
+    cost-fits = λ b h. omega (arith, top-column b (omega arith), optimum-fits (c .outline) (c .way) b, s .low);
+  }
+
+  top-curve : columns (topDiversity table (c .count + 1)) (topCost table (c .count + 1)) (from 0 (c .count + 1)) ≡ curveOf c
+  unfolding curveOf
+  top-curve = columns-ext _ _ _ _ 0 (c .count + 1) top-column
+
+  -- the last column's set is the best
+  best-marks : (best : Candidate) → view best ≡ cell table (2 * (c .count + 1) + c .count) → decode (c .outline) (best .set) ≡ bestSet c
+  unfolding view worth
+  best-marks best e =
+      let code = set-of (best .score) (best .set) (e ∙ filled .row (c .count) (omega arith)) in
+      ap (decode (c .outline)) code ∙ decode-code (optimum-set (c .outline) (c .way) (c .count))
+
+  -- what is told and written
+  pub solved : (best : Candidate) {marks curve work : List ℕ} {taxa left : ℕ} → view best ≡ cell table (2 * (c .count + 1) + c .count)
+      → marks ≡ over (decode (c .outline) (best .set)) (c .marks)
+      → curve ≡ over (columns (topDiversity table (c .count + 1)) (topCost table (c .count + 1)) (from 0 (c .count + 1))) (c .curve)
+      → work ≡ replicate (length (c .work)) 0
+      → taxa ≡ chosenTaxa (c .outline) marks
+      → left ≡ columnsAlike (drawnDiversity curve) (drawnDiversity curve (c .count)) (c .count)
+      → Solved c (Answer.Selected (getD curve (2 * c .count) 0) (getD curve (2 * c .count + 1) 0) taxa left) marks curve work
+  unfolding selected bestDiversity leastCost
+  solved best {marks} {curve} is-best m k w t l =
+      let marked : marks ≡ over (bestSet c) (c .marks) = m ∙ ap (λ x. over x (c .marks)) (best-marks best is-best) in
+      let drawn : curve ≡ over (curveOf c) (c .curve) = k ∙ ap (λ x. over x (c .curve)) top-curve in
+      record {
+        told-selected =
+            reply-path (ap (λ x. drawnDiversity x (c .count)) drawn ∙ curve-diversity c (c .curve) (c .count) (omega arith))
+            (ap (λ x. getD x (2 * c .count + 1) 0) drawn ∙ curve-cost c (c .curve) (c .count) (omega arith))
+            (t ∙ ap (chosenTaxa (c .outline)) marked ∙ taxa-over (c .outline) (bestSet c) (c .marks) (optimum-set _ _ _))
+            (l ∙ ap (λ x. columnsAlike (drawnDiversity x) (drawnDiversity x (c .count)) (c .count)) drawn ∙ curve-spare c (c .curve));
+        marks-written = marked;
+        curve-written = drawn;
+        work-cleared = w;
+      }

@@ -1,0 +1,59 @@
+-- `choice::chooser::choose` meets its contract: a refusal of the table, or a selection.
+use mathlib.Core.Path.{_≡_, sym}
+use mathlib.Core.Bool.{true}
+use borrow.Author.Needs.{needs}
+use Rattle.choice.specs.Answer.{Call, isSelected}
+use Rattle.choice.proofs.Answers.{selected-solvable, lent-inside, lent-long, lent-solvable, solved-answered, refused-answered}
+use Rattle.choice.proofs.chooser.choose.Statement.{statement}
+use Rattle.choice.proofs.chooser.choose.Tie as tie
+
+-- the call
+abbrev call : tie.Start → Call
+call s = record {
+  outline = s .args .outline .now;
+  count = s .args .count;
+  way = s .args .way;
+  marks = s .args .marks .now;
+  curve = s .args .curve .now;
+  work = s .args .work .now;
+}
+
+abbrev start : tie.After-judge → tie.Start
+start c = c .before .before .before .before .before .before .before .before
+
+-- no row holds
+accepted : (c : tie.After-enum-told) → isSelected (call (start (c .before .before))) ≡ true
+accepted c = rw (← c .before .before .judge .ensures, c .enum-told .given .1)
+
+cells-of-requires : tie.Need-cells-of-requires
+cells-of-requires c κs =
+    let s = selected-solvable (call (start (c .before .before))) (accepted c) in
+    record { records = s .kept .size-most; columns = s .low }
+
+slice-relend-prefix-solve : tie.Need-slice-relend-prefix-solve
+slice-relend-prefix-solve c = let n = c .before .before in lent-inside _ (accepted (n .before)) _ (n .cells-of .ensures)
+
+slice-aggregate-solve : tie.Need-slice-aggregate-solve
+slice-aggregate-solve c = let n = c .before .before .before in sym (lent-long _ (accepted (n .before)) _ (n .cells-of .ensures))
+
+solve-requires : tie.Need-solve-requires
+solve-requires c κs = let n = c .before .before .before in lent-solvable _ (accepted (n .before)) _ (n .cells-of .ensures)
+
+returns : tie.Need-returns
+returns c =
+    let r = c .before in
+    let j = r .before .before in
+    refused-answered (call (start j)) (r .refusal .given .0 .0) (rw (r .refusal .given .1) at (j .judge .ensures))
+
+returns-2 : tie.Need-returns-2
+returns-2 c =
+    let s = c .before .before .before .before .before .before in
+    let n = s .before .before .before .before in
+    solved-answered _ (accepted (n .before)) _ (n .cells-of .ensures) (s .solve .ensures)
+
+pub choose-spec : {M : Type 1} → statement M
+choose-spec =
+    tie.close
+    (tie.spec (λ c κs. search needs) (λ c. search needs) (λ c. search needs) cells-of-requires slice-relend-prefix-solve
+    slice-aggregate-solve solve-requires (λ c. search needs) (λ c. search needs) (λ c. search needs) returns (λ c. search needs)
+    (λ c. search needs) (λ c. search needs) returns-2)

@@ -1,0 +1,50 @@
+-- `choice::curve::spare_of` meets its contract: the columns passed have the diversity of the last.
+use Prim.Native.Nat.{_-_}
+use mathlib.Core.Path.{ap, _∙_}
+use mathlib.Core.Logic.{⊎-elim}
+use native.Mathlib.Omega.{arith}
+use borrow.Author.Needs.{needs}
+use Rattle.choice.specs.Inner.{drawnDiversity}
+use Rattle.choice.proofs.Columns.{Level, level-starts, level-goes, level-drops, level-ends}
+use Rattle.choice.proofs.curve.spare_of.Statement.{statement}
+use Rattle.choice.proofs.curve.spare_of.Tie as tie
+
+abbrev Inv-loop : tie.InvT-loop
+Inv-loop curve count diversity b₀ b = Level (drawnDiversity curve) diversity count b
+
+abbrev μ-loop : tie.MeasureT-loop
+μ-loop curve count diversity b₀ b = b
+
+loop-again : tie.Need-loop-again Inv-loop μ-loop
+loop-again c = level-goes (c .before .before .before .loop .inv) (c .before .before .if1 .left) (c .if2 .left)
+
+sub-result : tie.Need-sub-result Inv-loop μ-loop
+sub-result c = let h = c .before .before .loop .inv in ⊎-elim (λ w. omega arith) (λ w. omega (arith, h .most)) (c .before .if1 .came)
+
+returns : tie.Need-returns Inv-loop μ-loop
+returns c =
+    let n = c .before .before .before .before .args .count in
+    let h = c .before .before .loop .inv in
+    ⊎-elim (λ w. ap (λ k. n - k) (w .1) ∙ level-ends h (w .0 .taken))
+    (λ w. ap (λ k. n - k) (w .3) ∙ level-drops h (w .0 .left) (w .2 .taken))
+    (c .before .if1 .came)
+
+pub spare-of-spec : {M : Type 1} → statement M
+spare-of-spec =
+    tie.close
+    (tie.spec
+    Inv-loop
+    μ-loop
+    (λ c. search needs)
+    (λ c. search needs)
+    (λ c. search needs)
+    (λ c. level-starts _ _ _)
+    (λ c. search needs)
+    (λ c. search needs)
+    (λ c. search needs)
+    (λ c. search needs)
+    (λ c. search needs)
+    (λ c. search needs)
+    loop-again
+    sub-result
+    returns)

@@ -1,0 +1,115 @@
+-- `choice::judge::judge` meets its contract: the rows that passed leave the answer to the next one.
+use mathlib.Core.Path.{_≡_}
+use mathlib.Core.Bool.{false}
+use lib.Dec.{eqb, ltb}
+use borrow.Author.Needs.{needs}
+use borrow.Author.Tests.{lt-ltb, le-ltb}
+use Rattle.outline.specs.Refusals.{Told, told, _▸_, row, sizeRows, recordRows}
+use Rattle.outline.proofs.Refusals.{refusal-not-zero}
+use Rattle.outline.proofs.Kept.{sizes-kept}
+use Rattle.choice.specs.Answer.{Call, mostCount, tooShort, judged}
+use Rattle.choice.proofs.judge.judge.Statement.{statement}
+use Rattle.choice.proofs.judge.judge.Tie as tie
+
+-- the call
+abbrev call : tie.Start → Call
+call s = record {
+  outline = s .args .outline .now;
+  count = s .args .count;
+  way = s .args .way;
+  marks = s .args .marks .now;
+  curve = s .args .curve .now;
+  work = s .args .work .now;
+}
+
+-- the call, at each place
+abbrev at2 : tie.After-check-size → Call
+at2 c = call (c .before .before .before .before .before .before)
+
+abbrev at5 : tie.After-check-records → Call
+at5 c = at2 (c .before .before .before .before)
+
+-- the rows that are left after row 8, 4, 3 and 1
+abbrev after8 : Call → Told
+after8 c = row 9 (tooShort c)
+
+abbrev after4 : Call → Told
+after4 c = recordRows (c .outline) ▸ after8 c
+
+abbrev after3 : Call → Told
+after3 c = row 4 (ltb mostCount (c .count)) ▸ after4 c
+
+abbrev after1 : Call → Told
+after1 c = sizeRows (c .outline) ▸ after3 c
+
+returns : tie.Need-returns
+unfolding judged
+returns c = simp (c .if1 .taken)
+
+-- row 1 passed
+passed1 : (c : tie.After-check-size) → after1 (at2 c) ≡ judged (at2 c)
+unfolding judged
+passed1 c = simp (c .before .if1 .left)
+
+returns-2 : tie.Need-returns-2
+returns-2 c =
+    let size = c .before .before in
+    let number : eqb (told (size .check-size .result) .number) 0 ≡ false = simp (c .enum-told .given .1, refusal-not-zero) in
+    simp (← size .check-size .ensures, number) at (passed1 size)
+
+-- rows 2 and 3 passed too
+passed3 : (c : tie.After-enum-told2) → after3 (at2 (c .before .before)) ≡ judged (at2 (c .before .before))
+passed3 c = let size = c .before .before in simp (← size .check-size .ensures, c .enum-told2 .given .1) at (passed1 size)
+
+returns-3 : tie.Need-returns-3
+returns-3 c = simp (lt-ltb _ _ (c .if2 .taken)) at (passed3 (c .before))
+
+-- and row 4
+passed4 : (c : tie.After-check-records) → after4 (at5 c) ≡ judged (at5 c)
+passed4 c = simp (le-ltb _ _ (c .before .if2 .left)) at (passed3 (c .before .before))
+
+returns-4 : tie.Need-returns-4
+returns-4 c =
+    let records = c .before .before in
+    let number : eqb (told (records .check-records .result) .number) 0 ≡ false = simp (c .enum-told3 .given .1, refusal-not-zero) in
+    simp (← records .check-records .ensures, number) at (passed4 records)
+
+-- and rows 5 to 8
+passed8 : (c : tie.After-enum-told4) → after8 (at5 (c .before .before)) ≡ judged (at5 (c .before .before))
+passed8 c = let records = c .before .before in simp (← records .check-records .ensures, c .enum-told4 .given .1) at (passed4 records)
+
+cells-of-requires : tie.Need-cells-of-requires
+cells-of-requires c κs =
+    let under = c .before .before .before in
+    let size = under .before in
+    let checked = size .before .before in
+    let pass : sizeRows (at2 checked .outline) .number ≡ 0 = rw (← checked .check-size .ensures, size .enum-told2 .given .1) in
+    record { records = sizes-kept _ pass .2; columns = under .if2 .left }
+
+returns-5 : tie.Need-returns-5
+unfolding tooShort
+returns-5 c = simp (← c .before .cells-of .ensures, c .if3 .taken) at (passed8 (c .before .before))
+
+returns-6 : tie.Need-returns-6
+unfolding tooShort
+returns-6 c = simp (← c .before .cells-of .ensures, c .if3 .left) at (passed8 (c .before .before))
+
+pub judge-spec : {M : Type 1} → statement M
+judge-spec =
+    tie.close
+    (tie.spec
+    returns
+    (λ c κs. search needs)
+    (λ c. search needs)
+    returns-2
+    (λ c. search needs)
+    returns-3
+    (λ c κs. search needs)
+    (λ c. search needs)
+    returns-4
+    (λ c. search needs)
+    (λ c. search needs)
+    (λ c. search needs)
+    cells-of-requires
+    returns-5
+    returns-6)

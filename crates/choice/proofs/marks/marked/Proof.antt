@@ -1,0 +1,53 @@
+-- `choice::marks::marked` meets its contract: a sum over the records.
+use Prim.Native.Nat.{_+_, _-_}
+use mathlib.Core.Bool.{Bool}
+use native.Mathlib.Omega.{arith}
+use lib.Dec.{eqb}
+use lib.ListN.{getD}
+use borrow.Author.Needs.{needs}
+use Rattle.outline.specs.Lists.{one}
+use Rattle.outline.specs.Outline.{records}
+use Rattle.outline.proofs.Bools.{byte-one, one-le}
+use Rattle.outline.proofs.Walk.{Summing, summing-starts, summing-goes, summing-ends}
+use Rattle.diversity.specs.Diversity.{chosen, chosenTaxa}
+use Rattle.choice.proofs.marks.marked.Statement.{statement}
+use Rattle.choice.proofs.marks.marked.Tie as tie
+
+abbrev Inv-loop : tie.InvT-loop
+Inv-loop o marks n sum₀ r₀ sum r = Summing (λ q. one (chosen marks q)) n sum r
+
+abbrev μ-loop : tie.MeasureT-loop
+μ-loop o marks n sum₀ r₀ sum r = n + 1 - r
+
+-- whether the record is marked
+abbrev mark : tie.After-shared-slice-known Inv-loop μ-loop → Bool
+mark c = eqb (getD (c .before .before .before .args .marks .now) (c .before .before .loop .r - 1) 0) 1
+
+add-sum : tie.Need-add-sum Inv-loop μ-loop
+add-sum c = omega (arith, byte-one (mark c), one-le (mark c))
+
+loop-again : tie.Need-loop-again Inv-loop μ-loop
+unfolding chosen
+loop-again c =
+    summing-goes _ _ (c .before .before .loop .inv) (c .before .loop-test .taken) (byte-one (mark c))
+    (omega (arith, byte-one (mark c), one-le (mark c)))
+
+returns : tie.Need-returns Inv-loop μ-loop
+unfolding chosenTaxa records
+returns c = summing-ends _ _ (c .before .loop .inv) (c .loop-test .left)
+
+pub marked-spec : {M : Type 1} → statement M
+marked-spec =
+    tie.close
+    (tie.spec
+    Inv-loop
+    μ-loop
+    (λ c. summing-starts _ _)
+    (λ c. search needs)
+    (λ c. search needs)
+    (λ c. search needs)
+    add-sum
+    (λ c. search needs)
+    (λ c. search needs)
+    loop-again
+    returns)

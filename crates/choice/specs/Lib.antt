@@ -1,0 +1,4 @@
+-- What choosing answers and writes, and what the functions behind it speak of.
+pub mod Answer
+pub mod Demands
+pub mod Inner

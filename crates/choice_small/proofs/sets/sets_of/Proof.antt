@@ -1,0 +1,25 @@
+-- `choice_small::sets::sets_of` is safe and ends: the records go up to 11.
+use Prim.Native.Nat.{_-_, _≤_}
+use borrow.Author.Needs.{needs}
+use Rattle.choice_small.proofs.sets.sets_of.Statement.{statement}
+use Rattle.choice_small.proofs.sets.sets_of.Tie as tie
+
+abbrev Inv-loop : tie.InvT-loop
+Inv-loop o sets₀ r₀ sets r = 1 ≤ r
+
+abbrev μ-loop : tie.MeasureT-loop
+μ-loop o sets₀ r₀ sets r = 12 - r
+
+pub sets-of-spec : {M : Type 1} → statement M
+sets-of-spec =
+    tie.close
+    (tie.spec
+    Inv-loop
+    μ-loop
+    (λ c. search needs)
+    (λ c κs. search needs)
+    (λ c κs. search needs)
+    (λ c. search needs)
+    (λ c. search needs)
+    (λ c. search needs)
+    (λ c. search needs))

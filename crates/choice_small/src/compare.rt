@@ -1,0 +1,199 @@
+// Choosing beside the editor.
+ghost use Prim.Native.Nat.{_≤_, _<_};
+use super::editor::Worth;
+use super::editor::hands;
+use super::editor::weigh;
+use super::editor::worth_at;
+use super::fields::first;
+use super::fields::length;
+use super::fields::next;
+use super::fields::plate;
+use super::fields::price;
+use super::sets::Row;
+use super::sets::below;
+use super::sets::cost;
+use super::sets::set_of;
+use super::sets::sets_of;
+use super::tally::Tally;
+use choice::Answer;
+use choice::choose;
+use samples::outlines::Buffer;
+use samples::outlines::first_bytes;
+use samples::words::say;
+use samples::words::say_number;
+use samples::words::say_pair;
+use std::num::wrapping_sub_u32;
+
+// The curve, column by column.
+fn compare_curve(
+    curve: &[u32; 50],
+    count: u32,
+    diversities: &Worth,
+    costs: &Worth,
+    hands: &[u32; 25],
+) -> Tally {
+    let mut tally = Tally::none();
+    let mut b = 0;
+    while b < 25 {
+        if b <= count as usize {
+            let hand = hands[b];
+            tally = tally.with(
+                b"diversity of column",
+                count,
+                b,
+                worth_at(diversities, hand),
+                curve[2 * b],
+            );
+            tally = tally.with(
+                b"cost of column",
+                count,
+                b,
+                worth_at(costs, hand),
+                curve[2 * b + 1],
+            );
+        }
+        b += 1;
+    }
+    tally
+}
+
+fn number(mark: u8) -> u32 {
+    mark as u32
+}
+
+// The marks of n records.
+fn compare_marks(marks: &[u8; 11], n: usize, count: u32, set: &Row) -> Tally {
+    let mut tally = Tally::none();
+    let mut r = 1;
+    while r < 12 {
+        if r <= n {
+            tally = tally.with(b"mark of record", count, r, set[r], number(marks[r - 1]));
+        }
+        r += 1;
+    }
+    tally
+}
+
+// The four numbers of an answer. The spare is page count minus cost.
+fn compare_answer(answer: Answer, count: u32, diversity: u32, cost: u32, taxa: u32) -> Tally {
+    match answer {
+        Answer::Refused(_) => Tally::none().with(b"refused", count, 0, 0, 1),
+        Answer::Selected {
+            diversity: d,
+            cost: c,
+            taxa: t,
+            spare: s,
+        } => {
+            let worth = Tally::none()
+                .with(b"diversity", count, 0, diversity, d)
+                .with(b"cost", count, 0, cost, c);
+            worth
+                .with(b"taxa", count, 0, taxa, t)
+                .with(b"spare", count, 0, wrapping_sub_u32(count, cost), s)
+        }
+    }
+}
+
+// One call, at a count up to 24.
+fn compare_call(
+    o: &Buffer,
+    n: usize,
+    count: u32,
+    way: u32,
+    diversities: &Worth,
+    costs: &Worth,
+    hands: &[u32; 25],
+) -> Tally
+    requires { ⌜ (n ≤ 11) × (count < 25) ⌝ }
+{
+    let mut marks = [9u8; 11];
+    let mut curve = [9u32; 50];
+    let mut work = [9u64; 1300];
+    let answer = choose(
+        first_bytes(o, 16 * n),
+        count,
+        way,
+        &mut marks[..],
+        &mut curve[..],
+        &mut work[..],
+    );
+    let hand = hands[count as usize];
+    let set = set_of(o, hand);
+    let taxa = below(o, &set)[1];
+    let told = compare_answer(
+        answer,
+        count,
+        worth_at(diversities, hand),
+        worth_at(costs, hand),
+        taxa,
+    );
+    told.plus(compare_marks(&marks, n, count, &set))
+        .plus(compare_curve(&curve, count, diversities, costs, hands))
+}
+
+// Every count up to the sum of prices, and up to 24.
+fn compare_counts(o: &Buffer, n: usize, way: u32) -> Tally
+    requires { ⌜ n ≤ 11 ⌝ }
+{
+    let mut diversities = [0u32; 64];
+    let mut costs = [0u32; 64];
+    weigh(o, way, &mut diversities, &mut costs);
+    let hands = hands(&diversities, &costs, sets_of(o));
+    // the cost of all taxa
+    let most = cost(o, &set_of(o, 63));
+    let mut tally = Tally::none();
+    let mut count = 0;
+    while count < 25 {
+        if count <= most {
+            tally = tally.plus(compare_call(o, n, count, way, &diversities, &costs, &hands));
+        }
+        count += 1;
+    }
+    tally
+}
+
+// The records, as document 01 writes them.
+fn say_records(o: &Buffer, n: usize) {
+    let mut r = 1;
+    while r < 12 {
+        if r <= n {
+            say(b"\n  record ");
+            say_number(r as u64);
+            say(b": ");
+            say_pair(next(o, r) as u64, first(o, r));
+            say(b" ");
+            say_pair(length(o, r) as u64, price(o, r) as usize);
+            say(b" ");
+            say_number(plate(o, r) as u64);
+        }
+        r += 1;
+    }
+}
+
+// Compares one way, and ends the line that the outline's name began. There are at most 6 taxa.
+fn compare_way(o: &Buffer, n: usize, way: u32) -> Tally
+    requires { ⌜ n ≤ 11 ⌝ }
+{
+    let tally = compare_counts(o, n, way);
+    if tally.wrong == 0 {
+        say(b" ok\n");
+        return tally;
+    }
+    say_records(o, n);
+    say(b"\n");
+    tally
+}
+
+pub fn rooted(o: &Buffer, n: usize) -> Tally
+    requires { ⌜ n ≤ 11 ⌝ }
+{
+    say(b" rooted");
+    compare_way(o, n, 0)
+}
+
+pub fn unrooted(o: &Buffer, n: usize) -> Tally
+    requires { ⌜ n ≤ 11 ⌝ }
+{
+    say(b" unrooted");
+    compare_way(o, n, 1)
+}

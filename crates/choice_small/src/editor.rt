@@ -1,0 +1,83 @@
+// The patient editor of document 01: for each count the best of all sets of at most 6 taxa.
+use super::sets::cost;
+use super::sets::diversity;
+use super::sets::set_of;
+use samples::outlines::Buffer;
+
+// A number for each set, at the set's own number.
+pub type Worth = [u32; 64];
+
+pub fn worth_at(worth: &Worth, set: u32) -> u32 {
+    if set < 64 {
+        return worth[set as usize];
+    }
+    0
+}
+
+// Writes what each set is worth.
+pub fn weigh(o: &Buffer, way: u32, diversities: &mut Worth, costs: &mut Worth) {
+    let mut k: u32 = 0;
+    while k < 64 {
+        let set = set_of(o, k);
+        diversities[k as usize] = diversity(o, &set, way);
+        costs[k as usize] = cost(o, &set);
+        k += 1;
+    }
+}
+
+// Whether set x has the first taxon on which it differs from y.
+fn has_first(x: u32, y: u32) -> bool {
+    let mut a = x;
+    let mut b = y;
+    let mut i: u32 = 0;
+    while i < 6 {
+        if a % 2 != b % 2 {
+            return a % 2 == 1;
+        }
+        a = a / 2;
+        b = b / 2;
+        i += 1;
+    }
+    false
+}
+
+// Whether set x is better than y: more diversity, then fewer quarters, then the lowest-numbered taxon on which they differ.
+fn is_better(diversities: &Worth, costs: &Worth, x: u32, y: u32) -> bool {
+    let diversity = worth_at(diversities, x);
+    let other = worth_at(diversities, y);
+    if diversity != other {
+        return other < diversity;
+    }
+    let quarters = worth_at(costs, x);
+    let others = worth_at(costs, y);
+    if quarters != others {
+        return quarters < others;
+    }
+    has_first(x, y)
+}
+
+// The set in hand after all sets for a count. The first is the empty set, which fits.
+fn best(diversities: &Worth, costs: &Worth, sets: u32, count: u32) -> u32 {
+    let mut hand = 0;
+    let mut k = 1;
+    while k < sets {
+        if worth_at(costs, k) <= count {
+            if is_better(diversities, costs, k, hand) {
+                hand = k;
+            }
+        }
+        k += 1;
+    }
+    hand
+}
+
+// For each count from 0 to 24 the set in hand at the end.
+pub fn hands(diversities: &Worth, costs: &Worth, sets: u32) -> [u32; 25] {
+    let mut hands = [0u32; 25];
+    let mut b: u32 = 0;
+    while b < 25 {
+        hands[b as usize] = best(diversities, costs, sets, b);
+        b += 1;
+    }
+    hands
+}

@@ -1,0 +1,52 @@
+// The fields of an outline of at most 11 records, 0 where there is no such record.
+use outline::fields::branch_of;
+use outline::fields::first_of;
+use outline::fields::next_of;
+use outline::fields::plate_of;
+use outline::fields::price_of;
+use samples::outlines::Buffer;
+
+pub fn next(o: &Buffer, r: usize) -> usize {
+    if 0 < r {
+        if r < 12 {
+            return next_of(&o[..], r);
+        }
+    }
+    0
+}
+
+pub fn first(o: &Buffer, r: usize) -> usize {
+    if 0 < r {
+        if r < 12 {
+            return first_of(&o[..], r);
+        }
+    }
+    0
+}
+
+pub fn length(o: &Buffer, r: usize) -> u32 {
+    if 0 < r {
+        if r < 12 {
+            return branch_of(&o[..], r);
+        }
+    }
+    0
+}
+
+pub fn price(o: &Buffer, r: usize) -> u32 {
+    if 0 < r {
+        if r < 12 {
+            return price_of(&o[..], r);
+        }
+    }
+    0
+}
+
+pub fn plate(o: &Buffer, r: usize) -> u32 {
+    if 0 < r {
+        if r < 12 {
+            return plate_of(&o[..], r);
+        }
+    }
+    0
+}

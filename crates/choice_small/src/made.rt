@@ -1,0 +1,202 @@
+// Outlines made for what is special about them.
+ghost use Prim.Native.Nat.{_≤_};
+use super::compare::rooted;
+use super::compare::unrooted;
+use super::tally::Tally;
+use samples::outlines::Buffer;
+use samples::outlines::comb;
+use samples::outlines::one_record;
+use samples::outlines::put;
+use samples::outlines::star;
+use samples::outlines::tree_a;
+use samples::outlines::tree_a_with;
+use samples::words::say;
+
+fn both(label: &[u8], o: &Buffer, n: usize) -> Tally
+    requires { ⌜ n ≤ 11 ⌝ }
+{
+    say(label);
+    let tally = rooted(o, n);
+    say(label);
+    tally.plus(unrooted(o, n))
+}
+
+// Three taxa under a root of length 0, by length and price.
+fn three(x: [u32; 2], y: [u32; 2], z: [u32; 2]) -> Buffer {
+    let mut o = one_record([0, 2, 0, 0, 0]);
+    put(&mut o, 2, [3, 0, x[0], x[1], 1]);
+    put(&mut o, 3, [4, 0, y[0], y[1], 2]);
+    put(&mut o, 4, [0, 0, z[0], z[1], 3]);
+    o
+}
+
+// Two groups of two taxa each, and a third taxon alone; all taxa alike.
+fn two_groups(length: u32) -> Buffer {
+    let mut o = one_record([0, 2, 1, 0, 0]);
+    put(&mut o, 2, [5, 3, length, 0, 0]);
+    put(&mut o, 3, [4, 0, 1, 1, 1]);
+    put(&mut o, 4, [0, 0, 1, 1, 2]);
+    put(&mut o, 5, [8, 6, length, 0, 0]);
+    put(&mut o, 6, [7, 0, 1, 1, 3]);
+    put(&mut o, 7, [0, 0, 1, 1, 4]);
+    put(&mut o, 8, [0, 0, 1, 1, 5]);
+    o
+}
+
+// Sets of equal diversity, and of equal cost.
+pub fn tied() -> Tally {
+    let alike = both(b"two alike", &star(3, 4, 1), 3).plus(both(b"six alike", &star(7, 2, 1), 7));
+    let free = both(b"six free", &star(7, 2, 0), 7).plus(both(
+        b"six free of no length",
+        &star(7, 0, 0),
+        7,
+    ));
+    let dear = both(b"six of no length", &star(7, 0, 1), 7).plus(both(
+        b"six at 4",
+        &star(7, 1, 4),
+        7,
+    ));
+    let one = both(b"one or two others", &three([4, 2], [2, 1], [2, 1]), 4);
+    let two = both(b"two or one other", &three([2, 1], [2, 1], [4, 2]), 4);
+    let behind = both(
+        b"alike behind a free one",
+        &three([3, 0], [3, 2], [3, 2]),
+        4,
+    );
+    let before = both(
+        b"alike before a free one",
+        &three([3, 2], [3, 2], [3, 0]),
+        4,
+    );
+    let groups = both(b"two groups", &two_groups(2), 8).plus(both(
+        b"two groups of no length",
+        &two_groups(0),
+        8,
+    ));
+    alike
+        .plus(free)
+        .plus(dear)
+        .plus(one)
+        .plus(two)
+        .plus(behind)
+        .plus(before)
+        .plus(groups)
+}
+
+// Headings one within the other, each of a single member; beside them a taxon.
+fn single_members() -> Buffer {
+    let mut o = one_record([0, 2, 1, 0, 0]);
+    put(&mut o, 2, [6, 3, 2, 0, 0]);
+    put(&mut o, 3, [0, 4, 0, 0, 0]);
+    put(&mut o, 4, [0, 5, 4, 0, 0]);
+    put(&mut o, 5, [0, 0, 0, 2, 1]);
+    put(&mut o, 6, [0, 0, 3, 1, 2]);
+    o
+}
+
+// Two taxa deep below the only member of the root.
+fn deep_pair() -> Buffer {
+    let mut o = one_record([0, 2, 9, 0, 0]);
+    put(&mut o, 2, [0, 3, 8, 0, 0]);
+    put(&mut o, 3, [4, 0, 2, 1, 1]);
+    put(&mut o, 4, [0, 0, 3, 2, 2]);
+    o
+}
+
+pub fn shaped() -> Tally {
+    let one = both(b"one taxon", &one_record([0, 0, 5, 1, 7]), 1).plus(both(
+        b"one free taxon",
+        &one_record([0, 0, 5, 0, 7]),
+        1,
+    ));
+    let a = both(b"tree A", &tree_a(), 5).plus(both(
+        b"tree A with a free taxon",
+        &tree_a_with(4, [0, 0, 2, 0, 12]),
+        5,
+    ));
+    let dear = both(
+        b"tree A with price 65,535",
+        &tree_a_with(4, [0, 0, 2, 65535, 12]),
+        5,
+    );
+    let d = both(b"longest first stops", &three([6, 3], [5, 2], [5, 2]), 4);
+    let single = both(b"single members", &single_members(), 6).plus(both(
+        b"a deep pair",
+        &deep_pair(),
+        4,
+    ));
+    let combs = both(b"comb", &comb(11, 1, 1), 11).plus(both(
+        b"comb of no length",
+        &comb(11, 0, 2),
+        11,
+    ));
+    one.plus(a).plus(dear).plus(d).plus(single).plus(combs)
+}
+
+// Two groups whose members take turns.
+fn turns() -> Buffer {
+    let mut o = one_record([0, 2, 0, 0, 0]);
+    put(&mut o, 2, [3, 4, 2, 0, 0]);
+    put(&mut o, 3, [0, 5, 1, 0, 0]);
+    put(&mut o, 4, [6, 0, 1, 1, 1]);
+    put(&mut o, 5, [7, 0, 2, 1, 2]);
+    put(&mut o, 6, [0, 0, 2, 2, 3]);
+    put(&mut o, 7, [0, 0, 1, 2, 4]);
+    o
+}
+
+// Record 4, in the first group, comes before record 3 by the links, and after it by number.
+fn lower_is_later() -> Buffer {
+    let mut o = one_record([0, 2, 1, 0, 0]);
+    put(&mut o, 2, [3, 4, 0, 0, 0]);
+    put(&mut o, 3, [5, 0, 4, 1, 1]);
+    put(&mut o, 4, [6, 0, 4, 1, 2]);
+    put(&mut o, 5, [0, 0, 4, 1, 3]);
+    put(&mut o, 6, [0, 0, 4, 1, 4]);
+    o
+}
+
+// Three groups of two, whose members take turns.
+fn three_turns(length: u32) -> Buffer {
+    let mut o = one_record([0, 2, 1, 0, 0]);
+    put(&mut o, 2, [3, 5, length, 0, 0]);
+    put(&mut o, 3, [4, 6, 1, 0, 0]);
+    put(&mut o, 4, [0, 7, length, 0, 0]);
+    put(&mut o, 5, [8, 0, 2, 1, 1]);
+    put(&mut o, 6, [9, 0, 2, 2, 2]);
+    put(&mut o, 7, [10, 0, 2, 1, 3]);
+    put(&mut o, 8, [0, 0, 2, 2, 4]);
+    put(&mut o, 9, [0, 0, 2, 1, 5]);
+    put(&mut o, 10, [0, 0, 2, 2, 6]);
+    o
+}
+
+// Groups within groups, a record of each level in turn.
+fn levels() -> Buffer {
+    let mut o = one_record([0, 2, 2, 0, 0]);
+    put(&mut o, 2, [5, 3, 1, 0, 0]);
+    put(&mut o, 3, [6, 4, 1, 0, 0]);
+    put(&mut o, 4, [7, 0, 3, 2, 1]);
+    put(&mut o, 5, [8, 0, 3, 1, 2]);
+    put(&mut o, 6, [9, 0, 3, 1, 3]);
+    put(&mut o, 7, [0, 10, 1, 0, 0]);
+    put(&mut o, 8, [0, 0, 3, 0, 4]);
+    put(&mut o, 9, [0, 0, 2, 1, 5]);
+    put(&mut o, 10, [0, 0, 1, 1, 6]);
+    o
+}
+
+pub fn interleaved() -> Tally {
+    let two = both(b"two take turns", &turns(), 7).plus(both(
+        b"the lower record is later by links",
+        &lower_is_later(),
+        6,
+    ));
+    let three = both(b"three take turns", &three_turns(2), 10).plus(both(
+        b"three of no length",
+        &three_turns(0),
+        10,
+    ));
+    two.plus(three)
+        .plus(both(b"levels take turns", &levels(), 10))
+}

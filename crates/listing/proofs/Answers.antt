@@ -1,0 +1,83 @@
+-- What an answer's numbers and the buffers print is what the call prints.
+use Prim.Native.Nat.{ℕ, _+_, _-_, _≤_, _<_}
+use mathlib.Core.Path.{_≡_, refl, sym, ap, _∙_}
+use mathlib.Core.Bool.{Bool, true, false}
+use mathlib.Core.List.{List, [], _∷_}
+use native.Mathlib.Omega.{arith}
+use lib.ListN.{length, take, drop, length-drop, List·getD-append}
+use lib.Seq.{take-all}
+use borrow.Author.Tests.{eqb-false}
+use Rattle.outline.specs.Lists.{from}
+use Rattle.outline.specs.Outline.{short, size, records}
+use Rattle.outline.specs.Refusals.{Told}
+use Rattle.diversity.specs.Diversity.{chosen}
+use Rattle.laws.proofs.Optimum.{optimum-set}
+use Rattle.choice.specs.Answer.{Call, Reply, refused, judged, isSelected, bestSet, selected, reply, curveOf, over, marksAfter, curveAfter}
+use Rattle.choice.proofs.Solving.{curve-diversity, curve-cost}
+use Rattle.text.specs.Text.{texts}
+use Rattle.listing.specs.Lent.{columnText, taxonText, columnsText, taxaText, wholeText}
+use Rattle.listing.specs.Printed.{lending, callOf, refusalText, firstLine, columnLine, taxonLine, selectionText, answerText}
+use Rattle.listing.proofs.Texts.{texts-ext}
+
+-- the call that bytes make: what follows the first four of them is the outline
+pub call-made : (bytes : List ℕ) {o : List ℕ} {count way : ℕ} → o ≡ take (length bytes - 4) (drop 4 bytes)
+    → count ≡ short bytes 0 → way ≡ short bytes 2
+    → lending o count way ≡ callOf bytes
+unfolding callOf
+call-made bytes {o} {count} {way} e n w =
+    let whole : take (length bytes - 4) (drop 4 bytes) ≡ drop 4 bytes = take-all (length bytes - 4) (drop 4 bytes) (rw length-drop (omega arith)) in
+    rw (e ∙ whole, n, w)
+
+-- a refusal
+pub refused-text : (c : Call) (t : Told) → 1 ≤ t .number → refused t ≡ reply c → refusalText t ≡ answerText c
+unfolding selected reply refusalText answerText
+refused-text c t h e = go (isSelected c) refl
+  where
+    go : (b : Bool) → isSelected c ≡ b → refusalText t ≡ answerText c
+    go true s = let z : t .number ≡ 0 = ap (λ (r : Reply). r .number) (rw s at e) in absurd (omega arith)
+    go false s =
+        let f : refused t ≡ refused (judged c) = rw s at e in
+        let n : t .number ≡ judged c .number = ap (λ (r : Reply). r .number) f in
+        let p : t .place ≡ judged c .place = ap (λ (r : Reply). r .place) f in
+        rw (s, n, p)
+
+-- the lines of the columns, from the curve, and of the taxa, from the marks
+columns-text : (c : Call) (rest : List ℕ) → columnsText (over (curveOf c) rest) (c .count + 1) ≡ texts (columnLine c) (from 0 (c .count + 1))
+unfolding columnsText columnText columnLine
+columns-text c rest =
+    texts-ext _ _ 0 (c .count + 1) (λ b l u. rw (curve-diversity c rest b (omega arith), curve-cost c rest b (omega arith)))
+
+taxa-text : (c : Call) (rest : List ℕ) → taxaText (c .outline) (over (bestSet c) rest) ≡ texts (taxonLine c) (records (c .outline))
+unfolding over taxaText taxonText taxonLine records chosen
+taxa-text c rest =
+    let s = bestSet c in
+    texts-ext _ _ 1 (size (c .outline)) (λ r l u.
+    let h : r - 1 < length s = omega (arith, optimum-set (c .outline) (c .way) (c .count) .whole) in
+    rw (List·getD-append s (drop (length s) rest) 0 (r - 1) h))
+
+-- a selection
+module _ (c : Call) (d k t s : ℕ) (e : record { number = 0; place = 0; diversity = d; cost = k; taxa = t; spare = s } ≡ reply c) where
+  pub is-selected : isSelected c ≡ true
+  unfolding reply
+  is-selected = go (isSelected c) refl
+    where
+      go : (b : Bool) → isSelected c ≡ b → isSelected c ≡ true
+      go true f = f
+      go false f =
+          let z : 0 ≡ judged c .number = ap (λ (r : Reply). r .number) (rw f at e) in
+          absurd (eqb-false _ _ f (sym z))
+
+  replied : record { number = 0; place = 0; diversity = d; cost = k; taxa = t; spare = s } ≡ selected c
+  unfolding reply
+  replied = rw is-selected at e
+
+  pub selected-text : {marks curve : List ℕ} → marks ≡ marksAfter c → curve ≡ curveAfter c
+      → wholeText (c .count ∷ c .way ∷ d ∷ k ∷ t ∷ []) curve (c .count + 1) (c .outline) marks ≡ answerText c
+  unfolding answerText selectionText firstLine marksAfter curveAfter
+  selected-text {marks} {curve} m v =
+      let m′ : marks ≡ over (bestSet c) (c .marks) = rw is-selected at m in
+      let v′ : curve ≡ over (curveOf c) (c .curve) = rw is-selected at v in
+      let a : d ≡ selected c .diversity = ap (λ (r : Reply). r .diversity) replied in
+      let b : k ≡ selected c .cost = ap (λ (r : Reply). r .cost) replied in
+      let n : t ≡ selected c .taxa = ap (λ (r : Reply). r .taxa) replied in
+      rw (is-selected, m′, v′, columns-text c (c .curve), taxa-text c (c .marks), a, b, n)

@@ -1,0 +1,48 @@
+-- What the definitions give for tree A of document 01, count 5, way 0, which prints in whole what the document says, and for
+-- an input that is too short.
+use Prim.Native.Nat.{ℕ}
+use mathlib.Core.Path.{_≡_, refl}
+use mathlib.Core.List.{List, [], _∷_, _++_}
+use Rattle.outline.specs.Lists.{from, anywhere, total, lowest}
+use Rattle.outline.specs.Outline.{short, long, records}
+use Rattle.outline.specs.Refusals.{badField, naming, named, badLink, taxaIn, taxa, hasPlate, isDuplicate, sizeRows, recordRows}
+use Rattle.diversity.specs.Diversity.{chain, clade, chosen, within, elsewhere, rooted, unrooted, diversity, cost, chosenTaxa}
+use Rattle.diversity.specs.Search.{subsets, leads, better, turn, exhaustiveSearch, setOf, optimum, bestDiversity, leastCost}
+use Rattle.choice.specs.Answer.{tooShort, judged, selected}
+use Rattle.text.specs.Text.{digitsIn, decimal, others, line, texts}
+use Rattle.listing.specs.Printed.{lending, callOf, refusalText, firstLine, columnLine, taxonLine, selectionText, answerText, printed}
+
+-- page count, way, and the records: next, first, length, price, plate
+pub treeA : List ℕ
+treeA =
+    (5 ∷ 0 ∷ 0 ∷ 0 ∷ [])
+    ++ (0 ∷ 0 ∷ 2 ∷ 0 ∷ 0 ∷ 0 ∷ 0 ∷ 0 ∷ 0 ∷ 0 ∷ 0 ∷ 0 ∷ 0 ∷ 0 ∷ 0 ∷ 0 ∷ [])
+    ++ (5 ∷ 0 ∷ 3 ∷ 0 ∷ 3 ∷ 0 ∷ 0 ∷ 0 ∷ 0 ∷ 0 ∷ 0 ∷ 0 ∷ 0 ∷ 0 ∷ 0 ∷ 0 ∷ [])
+    ++ (4 ∷ 0 ∷ 0 ∷ 0 ∷ 4 ∷ 0 ∷ 0 ∷ 0 ∷ 3 ∷ 0 ∷ 0 ∷ 0 ∷ 11 ∷ 0 ∷ 0 ∷ 0 ∷ [])
+    ++ (0 ∷ 0 ∷ 0 ∷ 0 ∷ 2 ∷ 0 ∷ 0 ∷ 0 ∷ 1 ∷ 0 ∷ 0 ∷ 0 ∷ 12 ∷ 0 ∷ 0 ∷ 0 ∷ [])
+    ++ (0 ∷ 0 ∷ 0 ∷ 0 ∷ 5 ∷ 0 ∷ 0 ∷ 0 ∷ 2 ∷ 0 ∷ 0 ∷ 0 ∷ 13 ∷ 0 ∷ 0 ∷ 0 ∷ [])
+
+pub treeAText : List ℕ
+treeAText =
+    (53 ∷ 32 ∷ 48 ∷ 32 ∷ 49 ∷ 50 ∷ 32 ∷ 53 ∷ 32 ∷ 50 ∷ 10 ∷ [])  -- 5 0 12 5 2
+    ++ (48 ∷ 32 ∷ 48 ∷ 32 ∷ 48 ∷ 10 ∷ [])  -- 0 0 0
+    ++ (49 ∷ 32 ∷ 53 ∷ 32 ∷ 49 ∷ 10 ∷ [])  -- 1 5 1
+    ++ (50 ∷ 32 ∷ 53 ∷ 32 ∷ 49 ∷ 10 ∷ [])  -- 2 5 1
+    ++ (51 ∷ 32 ∷ 49 ∷ 48 ∷ 32 ∷ 51 ∷ 10 ∷ [])  -- 3 10 3
+    ++ (52 ∷ 32 ∷ 49 ∷ 48 ∷ 32 ∷ 51 ∷ 10 ∷ [])  -- 4 10 3
+    ++ (53 ∷ 32 ∷ 49 ∷ 50 ∷ 32 ∷ 53 ∷ 10 ∷ [])  -- 5 12 5
+    ++ (49 ∷ 49 ∷ 32 ∷ 51 ∷ 10 ∷ [])  -- 11 3
+    ++ (49 ∷ 51 ∷ 32 ∷ 50 ∷ 10 ∷ [])  -- 13 2
+
+pub tree-a-printed : printed treeA ≡ treeAText
+unfolding
+    from anywhere total lowest short long records badField naming named badLink taxaIn taxa hasPlate isDuplicate sizeRows
+    recordRows chain clade chosen within elsewhere rooted unrooted diversity cost chosenTaxa subsets leads better turn
+    exhaustiveSearch setOf optimum bestDiversity leastCost tooShort judged selected digitsIn decimal others line texts
+    lending callOf refusalText firstLine columnLine taxonLine selectionText answerText printed treeA treeAText
+tree-a-printed = refl
+
+-- three bytes: refused 2 0
+pub three-bytes-printed : printed (5 ∷ 0 ∷ 0 ∷ []) ≡ 114 ∷ 101 ∷ 102 ∷ 117 ∷ 115 ∷ 101 ∷ 100 ∷ 32 ∷ 50 ∷ 32 ∷ 48 ∷ 10 ∷ []
+unfolding digitsIn decimal others refusalText printed
+three-bytes-printed = refl

@@ -1,0 +1,78 @@
+// The listing of an input.
+ghost use Prim.Native.Nat.{_*_, _≤_, _<_};
+ghost use lib.ListN.{length};
+ghost use Rattle.outline.specs.Outline.{size};
+ghost use Rattle.text.specs.Page.{Room, Laid};
+ghost use Rattle.listing.specs.Lent.{wholeText};
+ghost use Rattle.listing.specs.Printed.{callOf, answerText, printed};
+use super::columns::put_columns;
+use super::refusal::put_refusal;
+use super::taxa::put_taxa;
+use choice::Answer;
+use choice::choose;
+use outline::fields::short_at;
+use outline::verdict::Refusal;
+use text::put_line;
+
+// The first line, the columns and the taxa.
+fn put_selection(
+    page: &mut [u8],
+    first: &[u64],
+    curve: &[u32],
+    width: usize,
+    o: &[u8],
+    marks: &[u8],
+) -> usize
+    requires { ⌜ (0 < length (now first)) × (2 * width ≤ length (now curve)) × (size (now o) ≤ length (now marks)) ⌝ }
+    requires { ⌜ Room 0 (wholeText (now first) (now curve) width (now o) (now marks)) (now page) ⌝ }
+    ensures { λ n. ⌜ Laid 0 (wholeText (now (first .entry)) (now (curve .entry)) width (now (o .entry)) (now (marks .entry))) (now (page .entry)) (now (page .exit)) n ⌝ }
+{
+    let columns = put_line(page, 0, first);
+    let taxa = put_columns(page, columns, curve, width);
+    put_taxa(page, taxa, o, marks)
+}
+
+// The listing of the bytes that are judged.
+fn list_bytes(page: &mut [u8], bytes: &[u8]) -> usize
+    requires { ⌜ (4 ≤ length (now bytes)) × Room 0 (answerText (callOf (now bytes))) (now page) ⌝ }
+    ensures { λ n. ⌜ Laid 0 (answerText (callOf (now (bytes .entry)))) (now (page .entry)) (now (page .exit)) n ⌝ }
+{
+    let mut marks = [0u8; 127];
+    let mut curve = [0u32; 1024];
+    let mut work = [0u64; 6528];
+    let count = short_at(bytes, 0) as u32;
+    let way = short_at(bytes, 2) as u32;
+    let outline = &bytes[4..];
+    let answer = choose(outline, count, way, &mut marks, &mut curve, &mut work);
+    match answer {
+        Answer::Refused(refusal) => put_refusal(page, refusal),
+        Answer::Selected {
+            diversity,
+            cost,
+            taxa,
+            spare: _,
+        } => {
+            let first = [
+                count as u64,
+                way as u64,
+                diversity as u64,
+                cost as u64,
+                taxa as u64,
+            ];
+            put_selection(page, &first, &curve, count as usize + 1, outline, &marks)
+        }
+    }
+}
+
+// Lays what an input prints at the beginning of the page, and answers how many bytes it takes.
+pub fn list(input: &[u8], page: &mut [u8; 16384]) -> usize
+    ensures { λ n. ⌜ Laid 0 (printed (now (input .entry))) (now (page .entry)) (now (page .exit)) n ⌝ }
+{
+    if input.len() < 4 {
+        return put_refusal(page, Refusal::PartialRecord);
+    }
+    if input.len() < 2052 {
+        return list_bytes(page, input);
+    }
+    list_bytes(page, &input[..2052])
+}

@@ -1,0 +1,3 @@
+// What the test programs share: outlines, and the words that they print.
+pub mod outlines;
+pub mod words;

@@ -1,0 +1,151 @@
+-- The steps of crossing a group's clade with the rest of its chain, by pushing either side over the other.
+use Prim.Native.Nat.{ℕ, _+_, _*_, _<_, _≤_}
+use mathlib.Core.Path.{_≡_, refl, sym, ap, _∙_}
+use mathlib.Core.Logic.{inl, inr}
+use mathlib.Core.Bool.{false}
+use mathlib.Core.List.{List}
+use native.Mathlib.Omega.{arith}
+use lib.ListN.{length}
+use borrow.Author.Tests.{ne-eqb, eqb-false}
+use Rattle.outline.specs.Lists.{pick}
+use Rattle.outline.specs.Outline.{size, next, first, branch, isTaxon}
+use Rattle.outline.proofs.Kept.{Kept, Later}
+use Rattle.laws.specs.Candidate.{betterOf, chargeOf}
+use Rattle.laws.specs.Forest.{tree}
+use Rattle.laws.specs.Numbers.{weight}
+use Rattle.laws.proofs.Order.{better-none}
+use Rattle.laws.proofs.Best.{From, from-same}
+use Rattle.rows.specs.Rows.{cladeRow, pushed, rootedRow, aloneRow, crossRow}
+use Rattle.rows.proofs.BestRows.{from-charge}
+use Rattle.rows.proofs.Bounds.{Small, branches, codes, rooted-small, pushed-small, branches-step, codes-step, branches-limit, codes-limit}
+use Rattle.rows.proofs.Steps.{pushed-same, cross-step}
+use Rattle.table.specs.Cells.{cell}
+use Rattle.table.specs.Memory.{Blank, Chargeable, Charging}
+use Rattle.table.specs.Table.{start, Ready, Done}
+use Rattle.table.specs.Spread.{Crossable, Crossed}
+use Rattle.table.proofs.Pushing.{gap, small-diversity}
+
+module _ {o : List ℕ} {r to w : ℕ} {l₀ : List ℕ} (s : Crossable o r to w l₀) where
+  abbrev kept : Kept o
+  kept = s .base .kept
+
+  abbrev n : ℕ
+  n = next o r
+
+  abbrev f : ℕ
+  f = first o r
+
+  to-next : Later o r n
+  to-next = kept .linked .next-later r (s .positive) (s .most)
+
+  to-first : Later o r f
+  to-first = kept .linked .first-later r (s .positive) (s .most)
+
+  members : 0 < f
+  members =
+      let e : f ≡ 0 → ⊥ = eqb-false f 0 (s .group) in
+      omega arith
+
+  pub own-inside : 2 * (start w r + 2 * w) ≤ length l₀
+  own-inside = omega (arith, s .base .long, gap w r (size o + 1) (omega (arith, s .most)))
+
+  branches-here : branches o (tree o r) ≡ branch o r + (branches o (tree o f) + branches o (tree o n))
+  branches-here = branches-step o (kept .linked) r (s .most) (s .positive)
+
+  codes-here : codes (weight o) (tree o r) ≡ codes (weight o) (tree o f) + codes (weight o) (tree o n)
+  codes-here =
+      let e : pick (isTaxon o r) (weight o r) 0 ≡ 0 = rw (s .group) in
+      omega (arith, e, codes-step o (kept .linked) (weight o) r (s .most) (s .positive))
+
+  -- the members, pushed over the rest
+  pub ready-members : Ready o f (start w r + w) to w l₀
+  ready-members =
+      let g = gap w r f (to-first .later members) in
+      record {
+        base = s .base;
+        most = to-first .most;
+        after-before = λ p. omega arith;
+        to-before = λ p. omega (arith, s .to-before);
+        to-above = s .to-above;
+        apart = inl (omega (arith, s .to-before));
+        room = record {
+          most-diversity = branches o (tree o n);
+          most-code = codes (weight o) (tree o n);
+          small = λ b h. rw (s .rest-row b (omega (arith, s .base .wide))) (rooted-small o (weight o) (tree o n) b);
+          diversity-fits = omega (arith, branches-here, branches-limit o kept r (s .most));
+          code-fits = omega (arith, codes-here, codes-limit o kept r (s .most));
+        };
+      }
+
+  module _ {l₁ : List ℕ} {at : ℕ} (h₁ : Done o f (start w r + w) to w l₀ l₁ at) (k₁ : length l₁ ≡ length l₀) where
+    at-to : at ≡ to
+    at-to = h₁ .place ∙ rw (ne-eqb f 0 (eqb-false f 0 (s .group)))
+
+    pushed₁ : (b : ℕ) → b < w → cell l₁ (to + b) ≡ pushed o (weight o) (tree o f) (rootedRow o (weight o) (tree o n)) b
+    pushed₁ b h =
+        ap (λ t. cell l₁ (t + b)) (sym at-to) ∙ h₁ .row b h
+        ∙ pushed-same o (weight o) (tree o f) b (λ i k. s .rest-row i (omega arith))
+
+    none₁ : Blank l₁ 0 w
+    none₁ e b h =
+        h₁ .same (0 + b) (λ p. omega (arith, s .to-above, s .to-before, gap w r f (to-first .later p))) (λ p q. omega (arith, s .to-above))
+        ∙ ap (cell l₀) (omega arith) ∙ s .base .none-row b h
+
+    pub chargeable-cross : Chargeable l₁ to to (branch o r) 0 w
+    chargeable-cross = record {
+      inside = omega (arith, s .to-before, own-inside);
+      charged = record { inside = omega (arith, s .to-before, own-inside); aside = inl (omega arith) };
+      over = record { inside = omega (arith, s .to-before, own-inside); aside = inr (omega (arith, s .to-above)) };
+      blank = none₁;
+      fits = λ i h.
+          let small = pushed-small o (weight o) (tree o f) _ _ i (λ b k. rooted-small o (weight o) (tree o n) b) i (omega arith) in
+          rw (pushed₁ i h) (omega (arith, small-diversity small, branches-here, branches-limit o kept r (s .most)));
+    }
+
+    pub crossed-members : {l₂ : List ℕ} → Charging to to (branch o r) 0 w l₁ l₂ → Crossed o r to w l₀ l₂
+    unfolding crossRow cladeRow
+    crossed-members v = record {
+      row = λ b h.
+          v .row b (omega arith) h ∙ ap (betterOf (chargeOf (cell l₁ (to + b)) (branch o r))) (none₁ refl b h) ∙ better-none _
+          ∙ ap (λ c. chargeOf c (branch o r)) (pushed₁ b h);
+      same = λ k p q.
+          v .same k (λ g. q (omega arith)) ∙ h₁ .same k (λ g. omega (arith, gap w r f (to-first .later g))) (λ g. q);
+    }
+
+  -- the rest, pushed over the clade
+  alone-small : (b : ℕ)
+      → From (Small (branch o r + branches o (tree o f)) (codes (weight o) (tree o f))) b (aloneRow o (weight o) r false (tree o f) b)
+  unfolding aloneRow
+  alone-small b =
+      from-same (λ v (q, small, e). rw e (record { diversity-most = omega (arith, small .diversity-most); code-most = small .code-most }))
+      (from-charge (branch o r) (rooted-small o (weight o) (tree o f) b))
+
+  pub ready-rest : Ready o n (start w r) to w l₀
+  ready-rest =
+      let g = gap w r n (to-next .later (s .more)) in
+      record {
+        base = s .base;
+        most = to-next .most;
+        after-before = λ p. omega arith;
+        to-before = λ p. omega (arith, s .to-before);
+        to-above = s .to-above;
+        apart = inl (s .to-before);
+        room = record {
+          most-diversity = branch o r + branches o (tree o f);
+          most-code = codes (weight o) (tree o f);
+          small = λ b h. rw (s .alone-row b (omega (arith, s .base .wide))) (alone-small b);
+          diversity-fits = omega (arith, branches-here, branches-limit o kept r (s .most));
+          code-fits = omega (arith, codes-here, codes-limit o kept r (s .most));
+        };
+      }
+
+  pub crossed-rest : {l₁ : List ℕ} {at : ℕ} → Done o n (start w r) to w l₀ l₁ at → Crossed o r to w l₀ l₁
+  crossed-rest {l₁} {at} h₁ =
+      let e : at ≡ to = h₁ .place ∙ rw (ne-eqb n 0 (λ z. omega (arith, s .more))) in
+      record {
+        row = λ b h.
+            ap (λ t. cell l₁ (t + b)) (sym e) ∙ h₁ .row b h
+            ∙ pushed-same o (weight o) (tree o n) b (λ i k. s .alone-row i (omega arith))
+            ∙ sym (rw (s .group) at (cross-step o (kept .linked) (weight o) r (s .positive) (s .most) b));
+        same = λ k p q. h₁ .same k (λ g. omega (arith, gap w r n (to-next .later g))) (λ g. q);
+      }

@@ -1,0 +1,9 @@
+-- Laws of candidates, cells and rows, and the steps of the functions that fill the table.
+pub mod Crossing
+pub mod Pushing
+pub mod Spreading
+pub mod SpreadSteps
+pub mod TaxonRows
+pub mod Whole
+pub mod Words
+pub mod Written

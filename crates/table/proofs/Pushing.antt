@@ -1,0 +1,342 @@
+-- The steps of pushing a row through the chain of a record: what each call asks, and in the end what the push leaves.
+use Prim.Native.Nat.{ℕ, zero, suc, _+_, _*_, _-_, _<_, _≤_}
+use mathlib.Core.Path.{_≡_, refl, sym, ap, ap₂, _∙_}
+use mathlib.Core.Logic.{_⊎_, inl, inr, ⊎-elim}
+use mathlib.Core.Bool.{Bool, true, false}
+use mathlib.Core.List.{List}
+use native.Mathlib.Omega.{arith}
+use native.Mathlib.Nat.{mul-le-mul-right}
+use lib.Dec.{eqb}
+use lib.ListN.{length}
+use borrow.Author.Tests.{eq-eqb, ne-eqb}
+use Rattle.outline.specs.Lists.{pick}
+use Rattle.outline.specs.Outline.{size, next, first, branch, price, isTaxon}
+use Rattle.outline.proofs.Kept.{Later, Kept}
+use Rattle.laws.specs.Candidate.{Cand, betterOf, chargeOf}
+use Rattle.laws.specs.Forest.{tree}
+use Rattle.laws.specs.Numbers.{weight}
+use Rattle.laws.proofs.Order.{better-none}
+use Rattle.laws.proofs.Best.{From, nothing, this, from-better}
+use Rattle.rows.specs.Rows.{Row, betterRow, taxonRooted, cladeRow, pushed}
+use Rattle.rows.proofs.Bounds.{Small, SmallRow, small-more, branches, codes, pushed-small, branches-step, codes-step}
+use Rattle.rows.proofs.Steps.{pushed-same, pushed-zero, pushed-step}
+use Rattle.table.specs.Cells.{cell, diversityOf, costOf, codeOf}
+use Rattle.table.specs.Memory.{rowAt, Blank, Betters, Chargeable, Charging, Bettering}
+use Rattle.table.proofs.TaxonRows.{join-row, join-same}
+use Rattle.table.specs.Table.{IsTaxon, start, Base, Ready, Done, Followed, TaxonRow, TaxonJoins}
+
+-- ---- places
+pub gap : (w m n : ℕ) → m < n → start w m + 2 * w ≤ start w n
+gap w m n h =
+    let k : m + 1 + 1 ≤ n + 1 = omega arith in
+    omega (arith, mul-le-mul-right w k)
+
+-- one of two, as a number
+pub picked : (b : Bool) {x y s : ℕ} → s ≡ pick b x y → (s ≡ x) ⊎ (s ≡ y)
+picked true e = inl e
+picked false e = inr e
+
+-- ---- candidates of bounded size
+module _ {d m b : ℕ} where
+  pub small-diversity : {c : Cand} → From (Small d m) b c → diversityOf c ≤ d
+  unfolding diversityOf
+  small-diversity nothing = omega arith
+  small-diversity (this p h) = p .diversity-most
+
+  pub small-code : {c : Cand} → From (Small d m) b c → codeOf c ≤ m
+  unfolding codeOf
+  small-code nothing = omega arith
+  small-code (this p h) = p .code-most
+
+  pub small-cost : {c : Cand} → From (Small d m) b c → costOf c ≤ b
+  unfolding costOf
+  small-cost nothing = omega arith
+  small-cost (this p h) = h
+
+pub done-none : (o : List ℕ) (after to w : ℕ) {l : List ℕ} → Base o w l → Done o 0 after to w l l 0
+done-none o after to w base = record {
+  place = refl;
+  row = λ b h. ap (cell _) (omega arith) ∙ base .none-row b h ∙ sym (pushed-zero o (base .kept .linked) (weight o) _ b);
+  same = λ k p q. refl;
+}
+
+-- ---- what may follow a clade
+module _ {to after rest w : ℕ} {l : List ℕ} (h : Betters l to after rest w) where
+  pub followed-first : rest ≡ 0 → Followed to after rest w l l after
+  followed-first e = record {
+    place = rw (eq-eqb rest 0 e);
+    row = λ b k. sym (ap (betterOf (cell l (after + b))) (h .blank e b k) ∙ better-none (cell l (after + b)));
+    same = λ k q. refl;
+  }
+
+  pub followed-both : (rest ≡ 0 → ⊥) → {m : List ℕ} → Bettering to after rest w l m → Followed to after rest w l m to
+  followed-both n v = record {
+    place = rw (ne-eqb rest 0 n);
+    row = λ b k. v .row b (omega arith) k;
+    same = λ k q. v .same k (λ g. q (omega arith));
+  }
+
+-- ---- pushing at record r; n is where the rest of its chain begins
+module _ {o : List ℕ} {r after to w : ℕ} {l₀ : List ℕ} (ready : Ready o r after to w l₀) (pos : 0 < r) {n f : ℕ} (en : n ≡ next o r) (ef : f ≡ first o r) where
+  abbrev kept : Kept o
+  kept = ready .base .kept
+
+  pub to-next : Later o r n
+  to-next = rw en (kept .linked .next-later r pos (ready .most))
+
+  pub to-first : Later o r f
+  to-first = rw ef (kept .linked .first-later r pos (ready .most))
+
+  pub own-inside : 2 * (start w r + 2 * w) ≤ length l₀
+  own-inside = omega (arith, ready .base .long, gap w r (size o + 1) (omega (arith, ready .most)))
+
+  -- what the row has room for
+  abbrev d : ℕ
+  d = ready .room .most-diversity
+
+  abbrev m : ℕ
+  m = ready .room .most-code
+
+  branches-here : branches o (tree o r) ≡ branch o r + (branches o (tree o f) + branches o (tree o n))
+  branches-here = rw (en, ef) (branches-step o (kept .linked) r (ready .most) pos)
+
+  codes-here : codes (weight o) (tree o r) ≡ pick (isTaxon o r) (weight o r) 0 + (codes (weight o) (tree o f) + codes (weight o) (tree o n))
+  codes-here = rw (en, ef) (codes-step o (kept .linked) (weight o) r (ready .most) pos)
+
+  -- what comes after the chain, what the rest of the chain makes of it, and the better of the two
+  abbrev x : Row
+  x = rowAt l₀ after
+
+  abbrev y : Row
+  y = pushed o (weight o) (tree o n) x
+
+  abbrev follow : Row
+  follow = betterRow x y
+
+  pub ready-next : Ready o n after (start w r + w) w l₀
+  ready-next = record {
+    base = ready .base;
+    most = to-next .most;
+    after-before = λ p. omega (arith, gap w r n (to-next .later p), ready .after-before pos);
+    to-before = λ p. omega (arith, gap w r n (to-next .later p));
+    to-above = omega arith;
+    apart = inr (omega (arith, ready .after-before pos));
+    room = record {
+      most-diversity = d;
+      most-code = m;
+      small = ready .room .small;
+      diversity-fits = omega (arith, branches-here, ready .room .diversity-fits);
+      code-fits = omega (arith, codes-here, ready .room .code-fits);
+    };
+  }
+
+  -- the pushed row, from the rest of the chain and from the members
+  here : (b : ℕ)
+      → pushed o (weight o) (tree o r) x b ≡ betterOf (cladeRow o (weight o) r (isTaxon o r) follow (pushed o (weight o) (tree o f) follow) b) (y b)
+  here b = rw (en, ef) (pushed-step o (kept .linked) (weight o) r pos (ready .most) b x)
+
+  placed : to ≡ pick (eqb r 0) 0 to
+  placed = rw (ne-eqb r 0 (λ e. omega arith))
+
+  -- after the rest of the chain, whose row stands at `rest`
+  module _ {l₁ : List ℕ} {rest : ℕ} (h₁ : Done o n after (start w r + w) w l₀ l₁ rest) (k₁ : length l₁ ≡ length l₀) where
+    rest-place : (rest ≡ 0) ⊎ (rest ≡ start w r + w)
+    rest-place = picked (eqb n 0) (h₁ .place)
+
+    below₁ : (k : ℕ) → k < start w r + w → cell l₁ k ≡ cell l₀ k
+    below₁ k h = h₁ .same k (λ p. omega (arith, gap w r n (to-next .later p))) (λ p q. omega arith)
+
+    base₁ : Base o w l₁
+    base₁ = record {
+      kept = kept;
+      wide = ready .base .wide;
+      narrow = ready .base .narrow;
+      long = omega (arith, ready .base .long);
+      none-row = λ b h. below₁ b (omega (arith, ready .to-before pos, ready .to-above)) ∙ ready .base .none-row b h;
+    }
+
+    x₁ : (b : ℕ) → b < w → cell l₁ (after + b) ≡ x b
+    x₁ b h = below₁ (after + b) (omega (arith, ready .after-before pos))
+
+    follow₁ : (b : ℕ) → b < w → betterOf (cell l₁ (after + b)) (cell l₁ (rest + b)) ≡ follow b
+    follow₁ b h = ap₂ betterOf (x₁ b h) (h₁ .row b h)
+
+    follow-small : SmallRow (d + branches o (tree o n)) (m + codes (weight o) (tree o n)) (w - 1) follow
+    follow-small b h =
+        from-better (small-more _ _ (omega arith) (omega arith) (ready .room .small b h))
+        (pushed-small o (weight o) (tree o n) d m (w - 1) (ready .room .small) b h)
+
+    rest-inside : 2 * (rest + w) ≤ length l₁
+    rest-inside = ⊎-elim (λ (e : rest ≡ 0). omega (arith, own-inside)) (λ (e : rest ≡ start w r + w). omega (arith, own-inside)) rest-place
+
+    rest-blank : Blank l₁ rest w
+    rest-blank e b h = ap (cell l₁) (omega arith) ∙ base₁ .none-row b h
+
+    -- a taxon is joined with what may follow
+    module _ (z : f ≡ 0) where
+      taxon : isTaxon o r ≡ true
+      taxon = eq-eqb _ _ (sym ef ∙ z)
+
+      pub is-taxon : IsTaxon o r
+      is-taxon = record { kept = kept; low = pos; high = ready .most; taxon = taxon }
+
+      pub none-row₁ : Blank l₁ 0 w
+      none-row₁ e b h = ap (cell l₁) (omega arith) ∙ base₁ .none-row b h
+
+      pub joins-taxon : TaxonJoins o r after rest to w l₁
+      unfolding diversityOf costOf codeOf
+      joins-taxon = record {
+        inside = omega (arith, ready .to-before pos, own-inside);
+        first-inside = omega (arith, ready .after-before pos, own-inside);
+        first-apart = ready .apart;
+        second-inside = rest-inside;
+        second-apart = ⊎-elim (λ (e : rest ≡ 0). inr (omega (arith, ready .to-above))) (λ (e : rest ≡ start w r + w). inl (omega (arith, ready .to-before pos))) rest-place;
+        second-blank = rest-blank;
+        over = record {
+          inside = rest-inside;
+          aside = ⊎-elim (λ (e : rest ≡ 0). inr (omega (arith, ready .to-above))) (λ (e : rest ≡ start w r + w). inl (omega (arith, ready .to-before pos))) rest-place;
+        };
+        blank = rest-blank;
+        fits = λ i h.
+            let s = follow-small i (omega arith) in
+            let weigh : pick (isTaxon o r) (weight o r) 0 ≡ weight o r = rw taxon in
+            rw (follow₁ i (omega arith))
+            (record {
+              diversity-fits = omega (arith, small-diversity s, branches-here, ready .room .diversity-fits);
+              cost-fits = omega (arith, small-cost s, ready .base .narrow);
+              code-fits = omega (arith, small-code s, codes-here, weigh, ready .room .code-fits);
+            });
+      }
+
+      pub done-taxon : {l₂ : List ℕ}
+          → TaxonRow o r after rest to w l₁ l₂
+          → Done o r after to w l₀ l₂ to
+      unfolding cladeRow
+      done-taxon v = record {
+        place = placed;
+        row = λ b h.
+            v .row b (omega arith) h
+            ∙ ap₂ betterOf (join-same _ _ _ _ b (follow₁ (b - price o r) (omega arith)) ∙ join-row (taxonRooted o (weight o) r) follow b) (h₁ .row b h)
+            ∙ rw (here b, taxon);
+        same = λ k p q. v .same k (λ g. q pos (omega arith)) ∙ below₁ k (omega (arith, p pos));
+      }
+
+    -- what may follow r's clade is pushed through its members
+    pub betters-follow : Betters l₁ (start w r) after rest w
+    betters-follow = record {
+      inside = omega (arith, own-inside);
+      first = record { inside = omega (arith, ready .after-before pos, own-inside); aside = inr (ready .after-before pos) };
+      second = record {
+        inside = rest-inside;
+        aside = ⊎-elim (λ (e : rest ≡ 0). inr (omega (arith, ready .to-above, ready .to-before pos))) (λ (e : rest ≡ start w r + w). inl (omega arith)) rest-place;
+      };
+      blank = rest-blank;
+    }
+
+    module _ (z : f ≡ 0 → ⊥) {l₂ : List ℕ} {at : ℕ} (h₂ : Followed (start w r) after rest w l₁ l₂ at) (k₂ : length l₂ ≡ length l₁) where
+      group : isTaxon o r ≡ false
+      group = ne-eqb _ _ (λ e. z (ef ∙ e))
+
+      positive : 0 < f
+      positive = omega arith
+
+      at-place : (at ≡ after) ⊎ (at ≡ start w r)
+      at-place = picked (eqb rest 0) (h₂ .place)
+
+      below₂ : (k : ℕ) → k < start w r → cell l₂ k ≡ cell l₀ k
+      below₂ k h = h₂ .same k (λ q. omega arith) ∙ below₁ k (omega arith)
+
+      -- the row of the rest stands before the members' rows, and apart from `to` and from what may follow
+      rest-before : rest + w ≤ start w f
+      rest-before =
+          let g = gap w r f (to-first .later positive) in
+          ⊎-elim (λ (e : rest ≡ 0). omega (arith, ready .to-above, ready .to-before pos)) (λ (e : rest ≡ start w r + w). omega arith) rest-place
+
+      rest-apart : (b : ℕ) → b < w → to ≤ rest + b → to + w ≤ rest + b
+      rest-apart b h =
+          ⊎-elim (λ (e : rest ≡ 0). λ q. omega (arith, ready .to-above)) (λ (e : rest ≡ start w r + w). λ q. omega (arith, ready .to-before pos)) rest-place
+
+      rest₂ : (b : ℕ) → b < w → cell l₂ (rest + b) ≡ y b
+      rest₂ b h =
+          h₂ .same (rest + b)
+          (⊎-elim (λ (e : rest ≡ 0). λ q. omega (arith, ready .to-above, ready .to-before pos)) (λ (e : rest ≡ start w r + w). λ q. omega arith) rest-place)
+          ∙ h₁ .row b h
+
+      follow₂ : (b : ℕ) → b < w → cell l₂ (at + b) ≡ follow b
+      follow₂ b h = h₂ .row b h ∙ follow₁ b h
+
+      base₂ : Base o w l₂
+      base₂ = record {
+        kept = kept;
+        wide = ready .base .wide;
+        narrow = ready .base .narrow;
+        long = omega (arith, ready .base .long);
+        none-row = λ b h. below₂ b (omega (arith, ready .to-before pos, ready .to-above)) ∙ ready .base .none-row b h;
+      }
+
+      pub ready-first : Ready o f at to w l₂
+      ready-first =
+          let g = gap w r f (to-first .later positive) in
+          record {
+            base = base₂;
+            most = to-first .most;
+            after-before = λ p. ⊎-elim (λ (e : at ≡ after). omega (arith, ready .after-before pos)) (λ (e : at ≡ start w r). omega arith) at-place;
+            to-before = λ p. omega (arith, ready .to-before pos);
+            to-above = ready .to-above;
+            apart = ⊎-elim (λ (e : at ≡ after). rw e (ready .apart)) (λ (e : at ≡ start w r). inl (omega (arith, ready .to-before pos))) at-place;
+            room = record {
+              most-diversity = d + branches o (tree o n);
+              most-code = m + codes (weight o) (tree o n);
+              small = λ b h. rw (follow₂ b (omega (arith, ready .base .wide))) (follow-small b h);
+              diversity-fits = omega (arith, branches-here, ready .room .diversity-fits);
+              code-fits = omega (arith, codes-here, ready .room .code-fits);
+            };
+          }
+
+      module _ {l₃ : List ℕ} {at₃ : ℕ} (h₃ : Done o f at to w l₂ l₃ at₃) (k₃ : length l₃ ≡ length l₂) where
+        at-to : at₃ ≡ to
+        at-to = h₃ .place ∙ rw (ne-eqb f 0 z)
+
+        members₃ : (b : ℕ) → b < w → cell l₃ (to + b) ≡ pushed o (weight o) (tree o f) follow b
+        members₃ b h =
+            ap (λ t. cell l₃ (t + b)) (sym at-to) ∙ h₃ .row b h
+            ∙ pushed-same o (weight o) (tree o f) b (λ i k. follow₂ i (omega arith))
+
+        rest₃ : (b : ℕ) → b < w → cell l₃ (rest + b) ≡ y b
+        rest₃ b h = h₃ .same (rest + b) (λ p. omega (arith, rest-before)) (λ p. rest-apart b h) ∙ rest₂ b h
+
+        pub chargeable : Chargeable l₃ to to (branch o r) rest w
+        chargeable = record {
+          inside = omega (arith, ready .to-before pos, own-inside);
+          charged = record { inside = omega (arith, ready .to-before pos, own-inside); aside = inl (omega arith) };
+          over = record {
+            inside = omega (arith, rest-inside);
+            aside = ⊎-elim (λ (e : rest ≡ 0). inr (omega (arith, ready .to-above))) (λ (e : rest ≡ start w r + w). inl (omega (arith, ready .to-before pos))) rest-place;
+          };
+          blank = λ e b h. rest₃ b h ∙ sym (h₁ .row b h) ∙ rest-blank e b h;
+          fits = λ i h.
+              let s = pushed-small o (weight o) (tree o f) _ _ (w - 1) follow-small i (omega arith) in
+              rw (members₃ i h) (omega (arith, small-diversity s, branches-here, ready .room .diversity-fits));
+        }
+
+        pub done-group : {l₄ : List ℕ} → Charging to to (branch o r) rest w l₃ l₄ → Done o r after to w l₀ l₄ to
+        unfolding cladeRow
+        done-group v = record {
+          place = placed;
+          row = λ b h.
+              v .row b (omega arith) h ∙ ap₂ betterOf (ap (λ c. chargeOf c (branch o r)) (members₃ b h)) (rest₃ b h) ∙ rw (here b, group);
+          same = λ k p q.
+              let g = gap w r f (to-first .later positive) in
+              v .same k (λ e. q pos (omega arith)) ∙ h₃ .same k (λ e. omega (arith, p pos)) (λ e. q pos) ∙ below₂ k (p pos);
+        }
+
+-- ---- how many records are left from r on: fewer at each link
+unfoldable pub left : List ℕ → ℕ → ℕ
+left o zero = 0
+left o (suc r) = size o - r
+
+pub left-less : (o : List ℕ) (r q : ℕ) → 0 < r → r ≤ size o → Later o r q → left o q < left o r
+unfolding left
+left-less o (suc r) zero p m h = omega arith
+left-less o (suc r) (suc q) p m h = omega (arith, h .later (omega arith), h .most)
+left-less o zero q p m h = absurd (omega arith)

@@ -1,0 +1,365 @@
+-- The steps of spreading at a record: the rest of its chain, its members, and the two together.
+use Prim.Native.Nat.{ℕ, zero, suc, _+_, _*_, _-_, _<_, _≤_}
+use mathlib.Core.Path.{_≡_, refl, sym, ap, ap₂, _∙_}
+use mathlib.Core.Logic.{inl, inr, ⊎-elim}
+use mathlib.Core.Bool.{true, false}
+use mathlib.Core.List.{List}
+use native.Mathlib.Omega.{arith}
+use lib.Dec.{eqb}
+use lib.ListN.{length}
+use borrow.Author.Tests.{eq-eqb, ne-eqb}
+use Rattle.outline.specs.Lists.{pick}
+use Rattle.outline.specs.Outline.{size, next, first, branch, price, records, isTaxon}
+use Rattle.outline.proofs.Kept.{Kept, Later}
+use Rattle.laws.specs.Candidate.{nothingWorth, none, some, betterOf, chargeOf, oneAt}
+use Rattle.laws.specs.Forest.{tree}
+use Rattle.laws.specs.Numbers.{weight}
+use Rattle.laws.proofs.Sums.{total-most}
+use Rattle.laws.proofs.Forest.{tree-zero, tree-step, sum-part}
+use Rattle.laws.proofs.Order.{better-none}
+use Rattle.rows.specs.Rows.{betterRow, joinRow, taxonRooted, cladeRow, pushed, rootedRow, aloneRow, crossRow, singleRow, acrossRow}
+use Rattle.rows.proofs.Bounds.{branches, codes, rooted-small, branches-step, codes-step, branches-limit, codes-limit}
+use Rattle.rows.proofs.Steps.{pushed-zero, pushed-step, rooted-step, across-step, cross-step}
+use Rattle.table.specs.Cells.{cell}
+use Rattle.table.specs.Memory.{rowAt, Chargeable, chargeOver, Charging}
+use Rattle.table.specs.Table.{taxonWorth, start, Base}
+use Rattle.table.specs.Spread.{Running, recordsIn, Spreadable, Spread, TaxonSpreadable, TaxonSpread, Crossable, Crossed, Meets, Met}
+use Rattle.table.proofs.Pushing.{gap, picked, small-diversity}
+use Rattle.table.proofs.Spreading.{least-kept, join-row-same, shuffle, blank-none}
+use Rattle.table.proofs.TaxonRows.{join-row, join-same}
+
+-- no record
+module _ (o : List ℕ) (kept : Kept o) (b : ℕ) where
+  rooted-zero : rootedRow o (weight o) (tree o 0) b ≡ none
+  unfolding rootedRow
+  rooted-zero = pushed-zero o (kept .linked) (weight o) _ b
+
+  across-zero : acrossRow o (weight o) (tree o 0) b ≡ none
+  unfolding acrossRow
+  across-zero = ap (λ F. acrossRow o (weight o) F b) (tree-zero o)
+
+records-zero : (o : List ℕ) → recordsIn (tree o 0) ≡ 0
+records-zero o = ap recordsIn (tree-zero o)
+
+pub records-most : (o : List ℕ) → Kept o → (r : ℕ) → r ≤ size o → recordsIn (tree o r) ≤ size o
+unfolding records
+records-most o kept r u =
+    omega (arith, sum-part o (kept .linked) (λ q f. 1) r u, total-most (λ q. 1) 1 1 (size o) (λ q l h. omega arith))
+
+pub spread-none : {o : List ℕ} {to w : ℕ} {l : List ℕ} → Spreadable o 0 to w l → Spread o 0 to w l l 0
+spread-none {o} {to} {w} {l} s = record {
+  row = λ p. absurd (omega arith);
+  top = λ b h. sym (ap (betterOf (cell l (2 * w + b))) (across-zero o (s .running .base .kept) b) ∙ better-none _);
+  same = λ k p q g. refl;
+  records = sym (records-zero o);
+}
+
+-- spreading keeps the four rows before the records'
+pub running-spread : {o : List ℕ} {r to w : ℕ} {l m : List ℕ} {count : ℕ} → Spreadable o r to w l → Spread o r to w l m count → length m ≡ length l
+    → Running o w m
+running-spread {o} {r} {to} {w} {l} s h len = record {
+  base = record {
+    kept = base .kept;
+    wide = base .wide;
+    narrow = base .narrow;
+    long = omega (arith, base .long);
+    none-row = λ b k. h .same b (λ p. omega (arith, s .to-before p, s .to-above)) (λ p q. omega (arith, s .to-above)) (λ q. omega arith)
+        ∙ base .none-row b k;
+  };
+  nothing-row = λ b k.
+      h .same (w + b) (λ p. omega (arith, s .to-before p, s .to-above)) (λ p q. omega (arith, s .to-above)) (λ q. omega arith)
+      ∙ s .running .nothing-row b k;
+  least = λ b k. rw (h .top b k) (least-kept _ _ (s .running .least b k));
+}
+  where
+    base : Base o w l
+    base = s .running .base
+
+-- ---- spreading at record r
+module _ {o : List ℕ} {r to w : ℕ} {l₀ : List ℕ} (s : Spreadable o r to w l₀) (pos : 0 < r) {n f : ℕ} (en : n ≡ next o r) (ef : f ≡ first o r) where
+  abbrev kept : Kept o
+  kept = s .running .base .kept
+
+  pub to-next : Later o r n
+  to-next = rw en (kept .linked .next-later r pos (s .most))
+
+  pub to-first : Later o r f
+  to-first = rw ef (kept .linked .first-later r pos (s .most))
+
+  pub own-inside : 2 * (start w r + 2 * w) ≤ length l₀
+  own-inside = omega (arith, s .running .base .long, gap w r (size o + 1) (omega (arith, s .most)))
+
+  own-above : 4 * w ≤ start w r
+  own-above = omega (arith, gap w 0 r pos)
+
+  branches-here : branches o (tree o r) ≡ branch o r + (branches o (tree o f) + branches o (tree o n))
+  branches-here = rw (en, ef) (branches-step o (kept .linked) r (s .most) pos)
+
+  codes-here : codes (weight o) (tree o r) ≡ pick (isTaxon o r) (weight o r) 0 + (codes (weight o) (tree o f) + codes (weight o) (tree o n))
+  codes-here = rw (en, ef) (codes-step o (kept .linked) (weight o) r (s .most) pos)
+
+  records-here : recordsIn (tree o r) ≡ 1 + (recordsIn (tree o f) + recordsIn (tree o n))
+  records-here = rw (en, ef) (ap recordsIn (tree-step o (kept .linked) r pos (s .most)))
+
+  pub spreadable-next : Spreadable o n (start w r + w) w l₀
+  spreadable-next = record {
+    running = s .running;
+    most = to-next .most;
+    to-before = λ p. omega (arith, gap w r n (to-next .later p));
+    to-above = omega (arith, own-above);
+  }
+
+  module _ {l₁ : List ℕ} {later : ℕ} (h₁ : Spread o n (start w r + w) w l₀ l₁ later) (k₁ : length l₁ ≡ length l₀) where
+    running₁ : Running o w l₁
+    running₁ = running-spread spreadable-next h₁ k₁
+
+    below₁ : (k : ℕ) → k < start w r + w → (2 * w ≤ k → 3 * w ≤ k) → cell l₁ k ≡ cell l₀ k
+    below₁ k h g = h₁ .same k (λ p. omega (arith, gap w r n (to-next .later p))) (λ p q. omega arith) g
+
+    -- a taxon, with the rest of its chain at `rest`
+    module _ (z : f ≡ 0) {rest : ℕ} (er : rest ≡ pick (eqb n 0) 0 (start w r + w)) where
+      taxon : isTaxon o r ≡ true
+      taxon = eq-eqb _ _ (sym ef ∙ z)
+
+      rest-row : (b : ℕ) → b < w → cell l₁ (rest + b) ≡ rootedRow o (weight o) (tree o n) b
+      rest-row b h = go n refl
+        where
+          go : (k : ℕ) → n ≡ k → cell l₁ (rest + b) ≡ rootedRow o (weight o) (tree o n) b
+          go zero e =
+              let e′ : rest ≡ 0 = er ∙ rw e in
+              blank-none (running₁ .base) rest e′ b h ∙ sym (ap (λ q. rootedRow o (weight o) (tree o q) b) e ∙ rooted-zero o kept b)
+          go (suc k) e =
+              let e′ : rest ≡ start w r + w = er ∙ rw (ne-eqb n 0 (λ q. omega arith)) in
+              ap (λ a. cell l₁ (a + b)) e′ ∙ h₁ .row (omega arith) b h
+
+      pub taxon-spreadable : TaxonSpreadable o r rest to w l₁
+      taxon-spreadable =
+          let weigh : pick (isTaxon o r) (weight o r) 0 ≡ weight o r = rw taxon in
+          record {
+            running = running₁;
+            is = record { kept = kept; low = pos; high = s .most; taxon = taxon };
+            to-above = s .to-above;
+            to-inside = omega (arith, s .to-before pos, own-inside);
+            rest-place = ⊎-elim inl (λ (e : rest ≡ start w r + w). inr (omega (arith, s .to-before pos))) (picked (eqb n 0) er);
+            rest-inside = ⊎-elim (λ (e : rest ≡ 0). omega (arith, own-inside)) (λ (e : rest ≡ start w r + w). omega (arith, own-inside)) (picked (eqb n 0) er);
+            most-diversity = branches o (tree o n);
+            most-code = codes (weight o) (tree o n);
+            small = λ b h. rw (rest-row b h) (rooted-small o (weight o) (tree o n) b);
+            diversity-fits = omega (arith, branches-here, branches-limit o kept r (s .most));
+            code-fits = omega (arith, weigh, codes-here, codes-limit o kept r (s .most));
+          }
+
+      members-none : (b : ℕ) → acrossRow o (weight o) (tree o (first o r)) b ≡ none
+      members-none b = ap (λ q. acrossRow o (weight o) (tree o q) b) (sym ef ∙ z) ∙ across-zero o kept b
+
+      rooted-taxon : (b : ℕ) → rootedRow o (weight o) (tree o r) b
+          ≡ betterOf (joinRow (taxonRooted o (weight o) r) (betterRow (λ i. some nothingWorth) (rootedRow o (weight o) (tree o n))) b) (rootedRow o (weight o) (tree o n) b)
+      unfolding rootedRow cladeRow
+      rooted-taxon b = rw en (rw taxon at (pushed-step o (kept .linked) (weight o) r pos (s .most) b (λ i. some nothingWorth)))
+
+      across-taxon : (b : ℕ) → acrossRow o (weight o) (tree o r) b
+          ≡ betterOf (betterOf (oneAt (taxonWorth o r 0) b) (acrossRow o (weight o) (tree o n) b)) (joinRow (taxonRooted o (weight o) r) (rootedRow o (weight o) (tree o n)) b)
+      unfolding singleRow crossRow cladeRow
+      across-taxon b =
+          rw en
+          ((rw taxon at (across-step o (kept .linked) (weight o) r pos (s .most) b))
+          ∙ ap (λ c. betterOf (betterOf c (acrossRow o (weight o) (tree o (next o r)) b)) (joinRow (taxonRooted o (weight o) r) (rootedRow o (weight o) (tree o (next o r))) b))
+          (ap (betterOf (oneAt (taxonWorth o r 0) b)) (members-none b) ∙ better-none _))
+
+      pub spread-taxon-done : {l₂ : List ℕ} → TaxonSpread o r rest to w l₁ l₂ → Spread o r to w l₀ l₂ (1 + later)
+      spread-taxon-done h₂ = record {
+        row = λ p b h.
+            h₂ .row b h
+            ∙ ap₂ betterOf
+            (join-same _ _ _ (betterRow (λ i. some nothingWorth) (rootedRow o (weight o) (tree o n))) b
+            (ap (betterOf (some nothingWorth)) (rest-row (b - price o r) (omega arith)))
+            ∙ join-row (taxonRooted o (weight o) r) _ b)
+            (rest-row b h)
+            ∙ sym (rooted-taxon b);
+        top = λ b h.
+            h₂ .top b h
+            ∙ ap₂ betterOf (ap (λ c. betterOf c (oneAt (taxonWorth o r 0) b)) (h₁ .top b h)) (join-row-same _ _ (rootedRow o (weight o) (tree o n)) b (rest-row (b - price o r) (omega arith)))
+            ∙ shuffle _ _ _ _ ∙ ap (betterOf (cell l₀ (2 * w + b))) (sym (across-taxon b));
+        same = λ k p q g. h₂ .same k (q pos) g ∙ below₁ k (omega (arith, p pos)) g;
+        records =
+            let e : recordsIn (tree o f) ≡ 0 = ap (λ q. recordsIn (tree o q)) z ∙ records-zero o in
+            omega (arith, e, records-here, h₁ .records);
+      }
+
+    -- a group
+    module _ (z : f ≡ 0 → ⊥) where
+      group : isTaxon o r ≡ false
+      group = ne-eqb _ _ (λ e. z (ef ∙ e))
+
+      positive : 0 < f
+      positive = omega arith
+
+      first-gap : start w r + 2 * w ≤ start w f
+      first-gap = gap w r f (to-first .later positive)
+
+      rooted-group : (b : ℕ) → rootedRow o (weight o) (tree o r) b
+          ≡ betterOf (betterOf (aloneRow o (weight o) r false (tree o f) b) (rootedRow o (weight o) (tree o n) b)) (crossRow o (weight o) r false (tree o f) (tree o n) b)
+      rooted-group b = rw (en, ef) (rw group at (rooted-step o (kept .linked) (weight o) r pos (s .most) b))
+
+      across-group : (b : ℕ) → acrossRow o (weight o) (tree o r) b
+          ≡ betterOf (betterOf (acrossRow o (weight o) (tree o f) b) (acrossRow o (weight o) (tree o n) b)) (crossRow o (weight o) r false (tree o f) (tree o n) b)
+      unfolding singleRow betterOf
+      across-group b = rw (en, ef) (rw group at (across-step o (kept .linked) (weight o) r pos (s .most) b))
+
+      -- a row of the members is charged with r's branch: it is what r's clade has alone
+      module _ {l₂ : List ℕ} {at : ℕ} (members : (b : ℕ) → b < w → cell l₂ (at + b) ≡ rootedRow o (weight o) (tree o f) b) (base₂ : Base o w l₂)
+          (above : w ≤ at) (inside : 2 * (at + w) ≤ length l₂) where
+        pub chargeable-alone : Chargeable l₂ at at (branch o r) 0 w
+        chargeable-alone = record {
+          inside = inside;
+          charged = record { inside = inside; aside = inl (omega arith) };
+          over = record { inside = omega (arith, inside); aside = inr (omega (arith, above)) };
+          blank = blank-none base₂ 0;
+          fits = λ i h. rw (members i h) (omega (arith, small-diversity (rooted-small o (weight o) (tree o f) i), branches-here, branches-limit o kept r (s .most)));
+        }
+
+        alone-row : (b : ℕ) → b < w → chargeOver (rowAt l₂ at) (branch o r) (rowAt l₂ 0) b ≡ aloneRow o (weight o) r false (tree o f) b
+        unfolding aloneRow
+        alone-row b h =
+            ap (betterOf (chargeOf (cell l₂ (at + b)) (branch o r))) (blank-none base₂ 0 refl b h) ∙ better-none _
+            ∙ ap (λ c. chargeOf c (branch o r)) (members b h)
+
+      -- the last of its chain
+      module _ (last : n ≡ 0) where
+        pub spreadable-last : Spreadable o f to w l₁
+        spreadable-last = record {
+          running = running₁;
+          most = to-first .most;
+          to-before = λ p. omega (arith, first-gap, s .to-before pos);
+          to-above = s .to-above;
+        }
+
+        rest-none : (b : ℕ) → rootedRow o (weight o) (tree o n) b ≡ none
+        rest-none b = ap (λ q. rootedRow o (weight o) (tree o q) b) last ∙ rooted-zero o kept b
+
+        later-none : (b : ℕ) → acrossRow o (weight o) (tree o n) b ≡ none
+        later-none b = ap (λ q. acrossRow o (weight o) (tree o q) b) last ∙ across-zero o kept b
+
+        cross-none : (b : ℕ) → crossRow o (weight o) r false (tree o f) (tree o n) b ≡ none
+        cross-none b =
+            rw (en, ef) (rw group at (cross-step o (kept .linked) (weight o) r pos (s .most) b))
+            ∙ ap (λ q. pushed o (weight o) (tree o q) (aloneRow o (weight o) r false (tree o f)) b) last
+            ∙ pushed-zero o (kept .linked) (weight o) _ b
+
+        module _ {l₂ : List ℕ} {members : ℕ} (h₂ : Spread o f to w l₁ l₂ members) (k₂ : length l₂ ≡ length l₁) where
+          base₂ : Base o w l₂
+          base₂ = running-spread spreadable-last h₂ k₂ .base
+
+          to-inside : 2 * (to + w) ≤ length l₂
+          to-inside = omega (arith, s .to-before pos, own-inside)
+
+          pub chargeable-last : Chargeable l₂ to to (branch o r) 0 w
+          chargeable-last = chargeable-alone (h₂ .row positive) base₂ (omega (arith, s .to-above)) to-inside
+
+          pub spread-last : {l₃ : List ℕ} → Charging to to (branch o r) 0 w l₂ l₃ → Spread o r to w l₀ l₃ (1 + members)
+          spread-last v = record {
+            row = λ p b h.
+                v .row b (omega arith) h ∙ alone-row (h₂ .row positive) base₂ (omega (arith, s .to-above)) to-inside b h
+                ∙ sym (rooted-group b ∙ ap₂ betterOf (ap (betterOf _) (rest-none b) ∙ better-none _) (cross-none b) ∙ better-none _);
+            top = λ b h.
+                v .same (2 * w + b) (λ q. omega (arith, s .to-above)) ∙ h₂ .top b h
+                ∙ ap (λ c. betterOf c (acrossRow o (weight o) (tree o f) b)) (h₁ .top b h) ∙ sym (better-none _) ∙ shuffle _ _ _ _
+                ∙ ap (betterOf (cell l₀ (2 * w + b))) (sym (across-group b ∙ ap (betterOf _) (cross-none b)));
+            same = λ k p q g.
+                v .same k (λ e. q pos (omega arith)) ∙ h₂ .same k (λ e. omega (arith, first-gap, p pos)) (λ e. q pos) g
+                ∙ below₁ k (omega (arith, p pos)) g;
+            records =
+                let e : recordsIn (tree o n) ≡ 0 = ap (λ q. recordsIn (tree o q)) last ∙ records-zero o in
+                omega (arith, e, records-here, h₂ .records);
+          }
+
+      -- with more after it
+      module _ (more : n ≡ 0 → ⊥) where
+        next-positive : 0 < n
+        next-positive = omega arith
+
+        pub spreadable-first : Spreadable o f (start w r) w l₁
+        spreadable-first = record {
+          running = running₁;
+          most = to-first .most;
+          to-before = λ p. omega (arith, first-gap);
+          to-above = omega (arith, own-above);
+        }
+
+        module _ {l₂ : List ℕ} {members : ℕ} (h₂ : Spread o f (start w r) w l₁ l₂ members) (k₂ : length l₂ ≡ length l₁) where
+          running₂ : Running o w l₂
+          running₂ = running-spread spreadable-first h₂ k₂
+
+          pub chargeable-first : Chargeable l₂ (start w r) (start w r) (branch o r) 0 w
+          chargeable-first = chargeable-alone (h₂ .row positive) (running₂ .base) (omega (arith, own-above)) (omega (arith, own-inside))
+
+          rest₂ : (b : ℕ) → b < w → cell l₂ (start w r + w + b) ≡ rootedRow o (weight o) (tree o n) b
+          rest₂ b h =
+              h₂ .same (start w r + w + b) (λ p. omega (arith, first-gap)) (λ p q. omega arith) (λ q. omega (arith, own-above))
+              ∙ h₁ .row next-positive b h
+
+          module _ {l₃ : List ℕ} (h₃ : Charging (start w r) (start w r) (branch o r) 0 w l₂ l₃) (k₃ : length l₃ ≡ length l₂) where
+            alone₃ : (b : ℕ) → b < w → cell l₃ (start w r + b) ≡ aloneRow o (weight o) r false (tree o f) b
+            alone₃ b h =
+                h₃ .row b (omega arith) h
+                ∙ alone-row (h₂ .row positive) (running₂ .base) (omega (arith, own-above)) (omega (arith, own-inside)) b h
+
+            rest₃ : (b : ℕ) → b < w → cell l₃ (start w r + w + b) ≡ rootedRow o (weight o) (tree o n) b
+            rest₃ b h = h₃ .same (start w r + w + b) (λ q. omega arith) ∙ rest₂ b h
+
+            pub crossable : Crossable o r to w l₃
+            crossable = record {
+              base = record {
+                kept = kept;
+                wide = s .running .base .wide;
+                narrow = s .running .base .narrow;
+                long = omega (arith, s .running .base .long);
+                none-row = λ b h. h₃ .same b (λ q. omega (arith, own-above)) ∙ running₂ .base .none-row b h;
+              };
+              positive = pos;
+              most = s .most;
+              group = group;
+              to-above = omega (arith, s .to-above);
+              to-before = s .to-before pos;
+              more = rw (← en) next-positive;
+              alone-row = rw (← ef) alone₃;
+              rest-row = rw (← en) rest₃;
+            }
+
+            module _ {l₄ : List ℕ} (h₄ : Crossed o r to w l₃ l₄) (k₄ : length l₄ ≡ length l₃) where
+              pub meets : Meets l₄ (start w r) to w
+              meets = record {
+                wide = s .running .base .wide;
+                to-above = s .to-above;
+                to-before = s .to-before pos;
+                inside = omega (arith, own-inside);
+              }
+
+              cross₄ : (b : ℕ) → b < w → cell l₄ (to + b) ≡ crossRow o (weight o) r false (tree o f) (tree o n) b
+              cross₄ = rw (en, ef) (h₄ .row)
+
+              top₄ : (b : ℕ) → b < w
+                  → cell l₄ (2 * w + b) ≡ betterOf (betterOf (cell l₀ (2 * w + b)) (acrossRow o (weight o) (tree o n) b)) (acrossRow o (weight o) (tree o f) b)
+              top₄ b h =
+                  h₄ .same (2 * w + b) (omega (arith, own-above)) (λ q. omega (arith, s .to-above))
+                  ∙ h₃ .same (2 * w + b) (λ q. omega (arith, own-above))
+                  ∙ h₂ .top b h ∙ ap (λ c. betterOf c (acrossRow o (weight o) (tree o f) b)) (h₁ .top b h)
+
+              own₄ : (k : ℕ) → start w r ≤ k → k < start w r + 2 * w → cell l₄ k ≡ cell l₃ k
+              own₄ k p h = h₄ .same k h (λ q. omega (arith, s .to-before pos))
+
+              pub spread-more : {l₅ : List ℕ} → Met (start w r) to w l₄ l₅ → Spread o r to w l₀ l₅ (1 + members + later)
+              spread-more h₅ = record {
+                row = λ p b h.
+                    h₅ .row b h
+                    ∙ ap₂ betterOf
+                    (ap₂ betterOf (own₄ (start w r + b) (omega arith) (omega arith) ∙ alone₃ b h) (own₄ (start w r + w + b) (omega arith) (omega arith) ∙ rest₃ b h))
+                    (cross₄ b h)
+                    ∙ sym (rooted-group b);
+                top = λ b h.
+                    h₅ .top b h ∙ ap₂ betterOf (top₄ b h) (cross₄ b h) ∙ shuffle _ _ _ _ ∙ ap (betterOf (cell l₀ (2 * w + b))) (sym (across-group b));
+                same = λ k p q g.
+                    h₅ .same k (p pos) (q pos) g ∙ h₄ .same k (omega (arith, p pos)) (q pos) ∙ h₃ .same k (λ e. omega (arith, p pos))
+                    ∙ h₂ .same k (λ e. omega (arith, first-gap, p pos)) (λ e d. omega (arith, p pos)) g ∙ below₁ k (omega (arith, p pos)) g;
+                records = omega (arith, records-here, h₁ .records, h₂ .records);
+              }

@@ -1,0 +1,303 @@
+-- The steps of spreading: what each call asks, and what it leaves.
+use Prim.Native.Nat.{ℕ, _+_, _*_, _-_, _^_, _<_, _≤_}
+use mathlib.Core.Path.{_≡_, refl, sym, ap, ap₂, _∙_}
+use mathlib.Core.Logic.{_⊎_, inl, inr, ⊎-elim}
+use mathlib.Core.Bool.{Bool, true, false}
+use mathlib.Core.List.{List}
+use native.Mathlib.Omega.{arith}
+use lib.Dec.{leb}
+use lib.ListN.{length}
+use borrow.Author.Tests.{le-ltb, ne-eqb}
+use Rattle.outline.specs.Lists.{pick}
+use Rattle.outline.specs.Outline.{size, first, branch, price}
+use Rattle.laws.specs.Candidate.{Value, nothingWorth, beats, Cand, none, some, betterOf, joinOf, oneAt}
+use Rattle.laws.specs.Numbers.{weight}
+use Rattle.laws.proofs.Order.{value-path, better-none, better-comm, better-assoc}
+use Rattle.laws.proofs.Best.{From, this, from-better}
+use Rattle.laws.proofs.Weights.{weight-limit}
+use Rattle.rows.specs.Rows.{Row, betterRow, joinRow}
+use Rattle.rows.proofs.Bounds.{Small}
+use Rattle.table.specs.Cells.{unit, cell, diversityOf, costOf, codeOf}
+use Rattle.table.specs.Memory.{rowAt, Blank, Reads, Betters, Bettering}
+use Rattle.table.specs.Table.{taxonWorth, Base, TaxonRow, TaxonJoins, ByTaxon, ByTaxonJoins}
+use Rattle.table.specs.Spread.{Running, Bettered, TaxonSpreadable, TaxonSpread, Meets, Met, BySingle, ByPairs}
+use Rattle.table.proofs.Pushing.{gap, small-diversity, small-cost, small-code}
+use Rattle.table.proofs.TaxonRows.{join-same}
+
+-- ---- candidates
+-- what is nothing or better stays so
+pub least-kept : (t x : Cand) → betterOf t (some nothingWorth) ≡ t → betterOf (betterOf t x) (some nothingWorth) ≡ betterOf t x
+least-kept t x e =
+    better-assoc t x _ ∙ ap (betterOf t) (better-comm x _) ∙ sym (better-assoc t _ x) ∙ ap (λ c. betterOf c x) e
+
+-- joined with nothing
+join-nothing : (v : Value) (b : ℕ) → joinOf (oneAt v b) (some nothingWorth) ≡ oneAt v b
+unfolding joinOf oneAt
+join-nothing v b = go (leb (v .cost) b)
+  where
+    go : (t : Bool) → joinOf (pick t (some v) none) (some nothingWorth) ≡ pick t (some v) none
+    go true = ap some (value-path (omega arith) (omega arith) (omega arith))
+    go false = refl
+
+join-none : (c : Cand) → joinOf c none ≡ none
+unfolding joinOf
+join-none none = refl
+join-none (some v) = refl
+
+-- what costs something and has no diversity is no better than nothing
+nothing-better : (v : Value) (b : ℕ) → v .diversity ≡ 0 → (v .cost ≡ 0 → ⊥) → betterOf (some nothingWorth) (oneAt v b) ≡ some nothingWorth
+unfolding betterOf oneAt beats
+nothing-better v b d c = go (leb (v .cost) b)
+  where
+    go : (t : Bool) → betterOf (some nothingWorth) (pick t (some v) none) ≡ some nothingWorth
+    go true = rw (d, le-ltb (v .cost) 0 (omega arith), ne-eqb (v .cost) 0 c)
+    go false = refl
+
+pub join-row-same : (v : Value) (x y : Row) (b : ℕ) → x (b - v .cost) ≡ y (b - v .cost) → joinRow v x b ≡ joinRow v y b
+unfolding joinRow
+join-row-same v x y b e = rw e
+
+-- the running optimum is bettered in whatever order
+pub shuffle : (t n s c : Cand) → betterOf (betterOf (betterOf t n) s) c ≡ betterOf t (betterOf (betterOf s n) c)
+shuffle t n s c =
+    ap (λ x. betterOf x c) (better-assoc t n s ∙ ap (betterOf t) (better-comm n s)) ∙ better-assoc t _ c
+
+-- ---- the four rows before the records'
+pub front-inside : {o : List ℕ} {w : ℕ} {l : List ℕ} → Base o w l → 2 * (4 * w) ≤ length l
+front-inside {o} {w} base = omega (arith, base .long, gap w 0 (size o + 1) (omega arith))
+
+pub blank-none : {o : List ℕ} {w : ℕ} {l : List ℕ} → Base o w l → (a : ℕ) → Blank l a w
+blank-none {l = l} base a e b h = ap (cell l) (omega arith) ∙ base .none-row b h
+
+-- ---- taxon r, and the rest of its chain
+module _ {o : List ℕ} {r rest to w : ℕ} {l : List ℕ} (s : TaxonSpreadable o r rest to w l) where
+  abbrev base : Base o w l
+  base = s .running .base
+
+  abbrev single : Value
+  single = taxonWorth o r 0
+
+  abbrev taxon : Value
+  taxon = taxonWorth o r (branch o r)
+
+  price-most : price o r < unit
+  price-most = omega (arith, s .is .kept .ranged r (s .is .low) (s .is .high) .price-most)
+
+  branch-most : branch o r ≤ 1000000
+  branch-most = s .is .kept .ranged r (s .is .low) (s .is .high) .branch-most
+
+  weight-most : weight o r < 2 ^ 64
+  weight-most = weight-limit o (s .is .kept) r (s .is .low) (s .is .high) (s .is .taxon)
+
+  over : Reads l (2 * w) (2 * w) w
+  over = record { inside = omega (arith, front-inside base); aside = inl (omega arith) }
+
+  not-zero : Blank l (2 * w) w
+  not-zero e = absurd (omega (arith, base .wide))
+
+  -- the taxon alone
+  pub joins-single : ByTaxonJoins o r 0 w (2 * w) w l
+  unfolding betterOf diversityOf costOf codeOf
+  joins-single = record {
+    inside = omega (arith, front-inside base);
+    first-inside = omega (arith, front-inside base);
+    first-apart = inr (omega arith);
+    second-inside = omega (arith, front-inside base);
+    second-apart = inr (omega arith);
+    second-blank = blank-none base 0;
+    over = over;
+    blank = not-zero;
+    fits = λ i h.
+        rw (s .running .nothing-row i (omega arith), blank-none base 0 refl i (omega arith))
+        (record { diversity-fits = omega arith; cost-fits = omega (arith, price-most); code-fits = omega (arith, weight-most) });
+  }
+
+  pub bettered-single : {m : List ℕ} → ByTaxon o r 0 w (2 * w) w l m → BySingle o r w l m
+  unfolding joinRow
+  bettered-single v = record {
+    top = λ b h.
+        v .row b (omega arith) h
+        ∙ ap (λ c. betterOf c (cell l (2 * w + b)))
+        (ap (joinOf (oneAt single b)) (s .running .nothing-row (b - price o r) (omega arith)) ∙ join-nothing single b)
+        ∙ better-comm _ _;
+    same = λ k g. v .same k (λ q. omega (arith, g (omega arith)));
+  }
+
+  pub bettered-dear : (price o r ≡ 0 → ⊥) → BySingle o r w l l
+  bettered-dear n = record {
+    top = λ b h.
+        let e = s .running .least b h in
+        sym e ∙ ap (betterOf (cell l (2 * w + b))) (sym (nothing-better single b refl n)) ∙ sym (better-assoc _ _ _)
+        ∙ ap (λ c. betterOf c (oneAt single b)) e;
+    same = λ k g. refl;
+  }
+
+  -- the taxon with something of the rest
+  module _ (n : rest ≡ 0 → ⊥) where
+    beyond : to + w ≤ rest
+    beyond = ⊎-elim (λ e. absurd (n e)) (λ h. h) (s .rest-place)
+
+    pub joins-pairs : ByTaxonJoins o r (branch o r) rest (2 * w) w l
+    unfolding diversityOf costOf codeOf
+    joins-pairs = record {
+      inside = omega (arith, front-inside base);
+      first-inside = s .rest-inside;
+      first-apart = inl (omega (arith, beyond, s .to-above));
+      second-inside = omega (arith, front-inside base);
+      second-apart = inr (omega arith);
+      second-blank = blank-none base 0;
+      over = over;
+      blank = not-zero;
+      fits = λ i h.
+          let small = s .small i (omega arith) in
+          rw (blank-none base 0 refl i (omega arith), better-none (cell l (rest + i)))
+          (record {
+            diversity-fits = omega (arith, small-diversity small, s .diversity-fits);
+            cost-fits = omega (arith, small-cost small, base .narrow);
+            code-fits = omega (arith, small-code small, s .code-fits);
+          });
+    }
+
+    pub bettered-pairs : {m : List ℕ} → ByTaxon o r (branch o r) rest (2 * w) w l m → ByPairs o r rest w l m
+    bettered-pairs v = record {
+      top = λ b h. v .row b (omega arith) h ∙ better-comm _ _;
+      same = λ k g. v .same k (λ q. omega (arith, g (omega arith)));
+    }
+
+  pub bettered-none : rest ≡ 0 → ByPairs o r rest w l l
+  unfolding joinRow
+  bettered-none e = record {
+    top = λ b h.
+        sym (ap (betterOf (cell l (2 * w + b))) (ap (joinOf (oneAt taxon b)) (blank-none base rest e (b - price o r) (omega arith)) ∙ join-none _) ∙ better-none _);
+    same = λ k g. refl;
+  }
+
+  -- bettering the running optimum leaves the rest as it was
+  module _ {x : Row} {m : List ℕ} (h : Bettered w x l m) (len : length m ≡ length l) where
+    rest-same : (b : ℕ) → b < w → cell m (rest + b) ≡ cell l (rest + b)
+    rest-same b k =
+        h .same (rest + b) (⊎-elim (λ (e : rest ≡ 0). λ q. omega arith) (λ (e : to + w ≤ rest). λ q. omega (arith, s .to-above)) (s .rest-place))
+
+    pub running-kept : Running o w m
+    running-kept = record {
+      base = record {
+        kept = base .kept;
+        wide = base .wide;
+        narrow = base .narrow;
+        long = omega (arith, base .long);
+        none-row = λ b k. h .same b (λ q. omega arith) ∙ base .none-row b k;
+      };
+      nothing-row = λ b k. h .same (w + b) (λ q. omega arith) ∙ s .running .nothing-row b k;
+      least = λ b k. rw (h .top b k) (least-kept _ _ (s .running .least b k));
+    }
+
+    pub spreadable-kept : TaxonSpreadable o r rest to w m
+    spreadable-kept = record {
+      running = running-kept;
+      is = s .is;
+      to-above = s .to-above;
+      to-inside = omega (arith, s .to-inside);
+      rest-place = s .rest-place;
+      rest-inside = omega (arith, s .rest-inside);
+      most-diversity = s .most-diversity;
+      most-code = s .most-code;
+      small = λ b k. rw (rest-same b k) (s .small b k);
+      diversity-fits = s .diversity-fits;
+      code-fits = s .code-fits;
+    }
+
+  -- the taxon's rooted row
+  rest-apart : (to + w ≤ rest) ⊎ (rest + w ≤ to)
+  rest-apart = ⊎-elim (λ (e : rest ≡ 0). inr (omega (arith, s .to-above, base .wide))) inl (s .rest-place)
+
+  pub joins-rooted : TaxonJoins o r w rest to w l
+  unfolding diversityOf costOf codeOf
+  joins-rooted = record {
+    inside = s .to-inside;
+    first-inside = omega (arith, front-inside base);
+    first-apart = inr (omega (arith, s .to-above));
+    second-inside = s .rest-inside;
+    second-apart = rest-apart;
+    second-blank = blank-none base rest;
+    over = record { inside = s .rest-inside; aside = ⊎-elim (λ p. inl (omega arith)) inr rest-apart };
+    blank = blank-none base rest;
+    fits = λ i h.
+        let zero : From (Small (s .most-diversity) (s .most-code)) i (some nothingWorth) =
+        this {v = nothingWorth} (record { diversity-most = omega arith; code-most = omega arith }) (omega arith) in
+        let small = from-better zero (s .small i (omega arith)) in
+        rw (s .running .nothing-row i (omega arith))
+        (record {
+          diversity-fits = omega (arith, small-diversity small, s .diversity-fits);
+          cost-fits = omega (arith, small-cost small, base .narrow);
+          code-fits = omega (arith, small-code small, s .code-fits);
+        });
+  }
+
+-- the running optimum bettered twice, then the rooted row
+module _ {o : List ℕ} {r rest to w : ℕ} {l₀ l₁ l₂ : List ℕ} (s : TaxonSpreadable o r rest to w l₀)
+    (h₁ : BySingle o r w l₀ l₁) (k₁ : length l₁ ≡ length l₀)
+    (h₂ : ByPairs o r rest w l₁ l₂) (k₂ : length l₂ ≡ length l₁) where
+  s₁ : TaxonSpreadable o r rest to w l₁
+  s₁ = spreadable-kept s h₁ k₁
+
+  rest₂ : (b : ℕ) → b < w → cell l₂ (rest + b) ≡ cell l₀ (rest + b)
+  rest₂ b k = rest-same s₁ h₂ k₂ b k ∙ rest-same s h₁ k₁ b k
+
+  pub taxon-spread : {l₃ : List ℕ}
+      → TaxonRow o r w rest to w l₂ l₃
+      → TaxonSpread o r rest to w l₀ l₃
+  taxon-spread v = record {
+    row = λ b k.
+        v .row b (omega arith) k
+        ∙ ap₂ betterOf
+        (join-same _ _ _ (betterRow (λ i. some nothingWorth) (rowAt l₀ rest)) b
+        (ap₂ betterOf (running-kept s₁ h₂ k₂ .nothing-row (b - price o r) (omega arith)) (rest₂ (b - price o r) (omega arith))))
+        (rest₂ b k);
+    top = λ b k.
+        v .same (2 * w + b) (λ q. omega (arith, s .to-above)) ∙ h₂ .top b k
+        ∙ ap₂ betterOf (h₁ .top b k) (join-row-same _ _ (rowAt l₀ rest) b (rest-same s h₁ k₁ (b - price o r) (omega arith)));
+    same = λ k p q. v .same k (λ g. p (omega arith)) ∙ h₂ .same k q ∙ h₁ .same k q;
+  }
+
+-- ---- a meeting of the crossing row at `to` and the two rows at `own`
+module _ {own to w : ℕ} {l₀ : List ℕ} (s : Meets l₀ own to w) where
+  pub betters-top : Betters l₀ (2 * w) (2 * w) to w
+  betters-top = record {
+    inside = omega (arith, s .to-above, s .to-before, s .inside);
+    first = record { inside = omega (arith, s .to-above, s .to-before, s .inside); aside = inl (omega arith) };
+    second = record { inside = omega (arith, s .to-above, s .to-before, s .inside); aside = inl (omega (arith, s .to-above)) };
+    blank = λ e. absurd (omega (arith, s .to-above, s .wide));
+  }
+
+  module _ {l₁ : List ℕ} (h₁ : Bettering (2 * w) (2 * w) to w l₀ l₁) (k₁ : length l₁ ≡ length l₀) where
+    pub betters-own : Betters l₁ own own (own + w) w
+    betters-own = record {
+      inside = omega (arith, s .inside);
+      first = record { inside = omega (arith, s .inside); aside = inl (omega arith) };
+      second = record { inside = omega (arith, s .inside); aside = inl (omega arith) };
+      blank = λ e. absurd (omega (arith, s .wide));
+    }
+
+    module _ {l₂ : List ℕ} (h₂ : Bettering own own (own + w) w l₁ l₂) (k₂ : length l₂ ≡ length l₁) where
+      pub betters-row : Betters l₂ to own to w
+      betters-row = record {
+        inside = omega (arith, s .to-before, s .inside);
+        first = record { inside = omega (arith, s .inside); aside = inl (omega (arith, s .to-before)) };
+        second = record { inside = omega (arith, s .to-before, s .inside); aside = inl (omega arith) };
+        blank = λ e. absurd (omega (arith, s .to-above, s .wide));
+      }
+
+      pub met : {l₃ : List ℕ} → Bettering to own to w l₂ l₃ → Met own to w l₀ l₃
+      met h₃ = record {
+        top = λ b k.
+            h₃ .same (2 * w + b) (λ q. omega (arith, s .to-above)) ∙ h₂ .same (2 * w + b) (λ q. omega (arith, s .to-above, s .to-before))
+            ∙ h₁ .row b (omega arith) k;
+        row = λ b k.
+            h₃ .row b (omega arith) k
+            ∙ ap₂ betterOf
+            (h₂ .row b (omega arith) k
+            ∙ ap₂ betterOf (h₁ .same (own + b) (λ q. omega (arith, s .to-above, s .to-before))) (h₁ .same (own + w + b) (λ q. omega (arith, s .to-above, s .to-before))))
+            (h₂ .same (to + b) (λ q. omega (arith, s .to-before)) ∙ h₁ .same (to + b) (λ q. omega (arith, s .to-above)));
+        same = λ k p q g.
+            h₃ .same k (λ e. q (omega arith)) ∙ h₂ .same k (λ e. omega arith) ∙ h₁ .same k (λ e. omega (arith, g (omega arith)));
+      }

@@ -1,0 +1,190 @@
+-- `table::push::push` meets its contract. The measure is how many records are left. Each call is a step of proofs/Pushing, which
+-- shows what the next call asks, and in the end the contract.
+use Prim.Native.Nat.{ℕ, _<_}
+use mathlib.Core.Path.{refl, _∙_}
+use native.Mathlib.Omega.{arith}
+use borrow.Author.Needs.{needs}
+use borrow.Fn.Kinds.{In}
+use borrow.Fn.PlainCycle.{Measures, is, falls, and}
+use Rattle.outline.specs.Inner.{IsRecord}
+use Rattle.table.proofs.Pushing.{left, left-less, done-none, to-next, to-first, own-inside, ready-next, is-taxon, none-row₁, joins-taxon}
+use Rattle.table.proofs.Pushing.{done-taxon, betters-follow, ready-first, chargeable, done-group}
+use Rattle.table.proofs.push.push.Reads as push
+use Rattle.table.proofs.push.push.Kinds as push-kinds
+use Rattle.table.proofs.push.+push.Lts-push as push-lts
+use Rattle.outline.proofs.fields.branch_of.Reads as branch-of-reads
+use Rattle.outline.proofs.fields.first_of.Reads as first-of-reads
+use Rattle.outline.proofs.fields.next_of.Reads as next-of-reads
+use Rattle.table.proofs.memory.charge_row.Reads as charge-row-reads
+use Rattle.table.proofs.push.follow_row.Reads as follow-row-reads
+use Rattle.table.proofs.taxa.taxon_row.Reads as taxon-row-reads
+use Rattle.table.proofs.push.+push.{statement}
+use Rattle.table.proofs.push.+push.Tie.{close}
+
+abbrev μ-push : Measures 2 push-kinds.ps ℕ
+μ-push κs a = left (a .0 .now) (a .1 .0)
+
+abbrev push-at : ℕ → In 2 push-kinds.ps
+push-at t = and 2 push-kinds.ps (is 2 push-kinds.ps μ-push t) push.Pre
+
+abbrev push-below : ℕ → In 2 push-kinds.ps
+push-below t = and 2 push-kinds.ps (falls 2 push-kinds.ps _<_ μ-push t) push.Pre
+
+-- what it knows of the functions that it calls
+abbrev calls : ℕ → push-lts.Claims
+calls t = (
+  next-of-reads.Asked,
+  next-of-reads.Learnt,
+  push-below t,
+  push.Post,
+  first-of-reads.Asked,
+  first-of-reads.Learnt,
+  taxon-row-reads.Asked,
+  taxon-row-reads.Learnt,
+  follow-row-reads.Asked,
+  follow-row-reads.Learnt,
+  branch-of-reads.Asked,
+  branch-of-reads.Learnt,
+  charge-row-reads.Asked,
+  charge-row-reads.Learnt,
+)
+
+module _ (t : ℕ) where
+  abbrev Else1 : Type 0
+  Else1 = push-lts.Else1 (calls t) (push-at t) push.Post
+
+  abbrev start : Else1 → push-lts.Start (calls t) (push-at t) push.Post
+  start c = c .before .before .before
+
+  -- record r is not 0
+  pos : (c : Else1) → 0 < start c .args .r
+  pos c = omega arith
+
+  record-r : (c : Else1) → IsRecord (start c .args .o .now) (start c .args .r)
+  record-r c = record { low = pos c; high = start c .pre .1 .most }
+
+  returns : push-lts.Need-returns (calls t) (push-at t) push.Post
+  returns c = rw (c .if1 .taken) (done-none _ _ _ _ (c .before .before .before .pre .1 .base))
+
+  add-own : push-lts.Need-add-own (calls t) (push-at t) push.Post
+  add-own c = omega (arith, start c .pre .1 .most, start c .pre .1 .base .kept .size-most)
+
+  mul-own : push-lts.Need-mul-own (calls t) (push-at t) push.Post
+  mul-own c = omega (arith, own-inside (start c .pre .1) (pos c) refl refl)
+
+  mul-own-2 : push-lts.Need-mul-own-2 (calls t) (push-at t) push.Post
+  mul-own-2 c = omega (arith, own-inside (start c .pre .1) (pos c) refl refl)
+
+  next-of-requires : push-lts.Need-next-of-requires (calls t) (push-at t) push.Post
+  next-of-requires c κs = record-r c
+
+  add-push : push-lts.Need-add-push (calls t) (push-at t) push.Post
+  add-push c = omega (arith, own-inside (start (c .before) .pre .1) (pos (c .before)) refl refl)
+
+  push-requires : push-lts.Need-push-requires (calls t) (push-at t) push.Post
+  push-requires c κs =
+      let n = c .before in
+      let h = start (n .before) .pre in
+      let p = pos (n .before) in
+      (omega (arith, left-less _ _ _ p (h .1 .most) (to-next (h .1) p (n .next-of .ensures) refl), h .0), ready-next (h .1) p (n .next-of .ensures) refl)
+
+  first-of-requires : push-lts.Need-first-of-requires (calls t) (push-at t) push.Post
+  first-of-requires c κs = record-r (c .before .before .before .before .before)
+
+  taxon-row-requires : push-lts.Need-taxon-row-requires (calls t) (push-at t) push.Post
+  taxon-row-requires c κs =
+      let f = c .before .before in
+      let d = f .before .before .before in
+      let n = d .before .before in
+      let h = start (n .before) .pre .1 in
+      let z = c .before .if2 .taken in (
+        is-taxon h (pos (n .before)) (n .next-of .ensures) (f .first-of .ensures) (d .push .ensures) (d .push .kept .1 .1 .1 .1 .1 .0) z,
+        (
+          (none-row₁ h (pos (n .before)) (n .next-of .ensures) (f .first-of .ensures) (d .push .ensures) (d .push .kept .1 .1 .1 .1 .1 .0) z, h .to-above),
+          joins-taxon h (pos (n .before)) (n .next-of .ensures) (f .first-of .ensures) (d .push .ensures) (d .push .kept .1 .1 .1 .1 .1 .0) z,
+        ),
+      )
+
+  same-length : push-lts.Need-same-length (calls t) (push-at t) push.Post
+  same-length c =
+      let r = c .before .before in
+      r .taxon-row .kept .1 .1 .1 .1 .1 .1 .0 ∙ r .before .before .before .before .before .before .push .kept .1 .1 .1 .1 .1 .0
+
+  returns-2 : push-lts.Need-returns-2 (calls t) (push-at t) push.Post
+  returns-2 c =
+      let r = c .before .before in
+      let f = r .before .before .before in
+      let d = f .before .before .before in
+      let n = d .before .before in
+      let h = start (n .before) .pre .1 in
+      done-taxon h (pos (n .before)) (n .next-of .ensures) (f .first-of .ensures) (d .push .ensures) (d .push .kept .1 .1 .1 .1 .1 .0)
+      (r .before .before .if2 .taken) (r .taxon-row .ensures)
+
+  follow-row-requires : push-lts.Need-follow-row-requires (calls t) (push-at t) push.Post
+  follow-row-requires c κs =
+      let f = c .before .before in
+      let d = f .before .before .before in
+      let n = d .before .before in
+      let h = start (n .before) .pre .1 in
+      betters-follow h (pos (n .before)) (n .next-of .ensures) (f .first-of .ensures) (d .push .ensures) (d .push .kept .1 .1 .1 .1 .1 .0)
+
+  push-requires-2 : push-lts.Need-push-requires-2 (calls t) (push-at t) push.Post
+  push-requires-2 c κs =
+      let w = c .before .before .before in
+      let f = w .before .before .before in
+      let d = f .before .before .before in
+      let n = d .before .before in
+      let h = start (n .before) .pre in
+      let p = pos (n .before) in (
+        omega (arith, left-less _ _ _ p (h .1 .most) (to-first (h .1) p (n .next-of .ensures) (f .first-of .ensures)), h .0),
+        ready-first (h .1) p (n .next-of .ensures) (f .first-of .ensures) (d .push .ensures) (d .push .kept .1 .1 .1 .1 .1 .0)
+            (w .before .before .if2 .left) (w .follow-row .ensures) (w .follow-row .kept .0),
+      )
+
+  branch-of-requires : push-lts.Need-branch-of-requires (calls t) (push-at t) push.Post
+  branch-of-requires c κs =
+      let f = c .before .before .before .before .before .before .before .before .before in
+      record-r (f .before .before .before .before .before .before)
+
+  charge-row-requires : push-lts.Need-charge-row-requires (calls t) (push-at t) push.Post
+  charge-row-requires c κs =
+      let b = c .before in
+      let m = b .before .before .before in
+      let w = m .before .before .before .before in
+      let f = w .before .before .before in
+      let d = f .before .before .before in
+      let n = d .before .before in
+      let h = start (n .before) .pre .1 in
+      rw (b .branch-of .ensures)
+      (chargeable h (pos (n .before)) (n .next-of .ensures) (f .first-of .ensures) (d .push .ensures) (d .push .kept .1 .1 .1 .1 .1 .0)
+      (w .before .before .if2 .left) (w .follow-row .ensures) (w .follow-row .kept .0) (m .push2 .ensures) (m .push2 .kept .1 .1 .1 .1 .1 .0))
+
+  same-length-2 : push-lts.Need-same-length-2 (calls t) (push-at t) push.Post
+  same-length-2 c =
+      let r = c .before .before in
+      let m = r .before .before .before .before .before in
+      let w = m .before .before .before .before in
+      let d = w .before .before .before .before .before .before in
+      r .charge-row .kept .0 ∙ m .push2 .kept .1 .1 .1 .1 .1 .0 ∙ w .follow-row .kept .0 ∙ d .push .kept .1 .1 .1 .1 .1 .0
+
+  returns-3 : push-lts.Need-returns-3 (calls t) (push-at t) push.Post
+  returns-3 c =
+      let r = c .before .before in
+      let b = r .before .before in
+      let m = b .before .before .before in
+      let w = m .before .before .before .before in
+      let f = w .before .before .before in
+      let d = f .before .before .before in
+      let n = d .before .before in
+      let h = start (n .before) .pre .1 in
+      done-group h (pos (n .before)) (n .next-of .ensures) (f .first-of .ensures) (d .push .ensures) (d .push .kept .1 .1 .1 .1 .1 .0)
+      (w .before .before .if2 .left) (w .follow-row .ensures) (w .follow-row .kept .0) (m .push2 .ensures) (m .push2 .kept .1 .1 .1 .1 .1 .0)
+      (rw (b .branch-of .ensures) at (r .charge-row .ensures))
+
+pub +push-spec : {M : Type 1} → statement M
++push-spec =
+    close μ-push
+    (λ t.
+    push-lts.spec (calls t) (push-at t) push.Post (returns t) (add-own t) (mul-own t) (mul-own-2 t) (next-of-requires t) (add-push t)
+    (push-requires t) (first-of-requires t) (taxon-row-requires t) (same-length t) (returns-2 t) (follow-row-requires t) (push-requires-2 t)
+    (branch-of-requires t) (λ c. search needs) (charge-row-requires t) (same-length-2 t) (returns-3 t))

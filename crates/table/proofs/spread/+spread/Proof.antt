@@ -1,0 +1,330 @@
+-- `table::spread::spread` meets its contract. The measure is how many records are left. Each call is a step of proofs/SpreadSteps,
+-- which shows what the next call asks, and in the end the contract.
+use Prim.Native.Nat.{ℕ, _<_}
+use mathlib.Core.Path.{refl, _∙_}
+use native.Mathlib.Omega.{arith}
+use borrow.Author.Needs.{needs}
+use borrow.Fn.Kinds.{In}
+use borrow.Fn.PlainCycle.{Measures, is, falls, and}
+use Rattle.outline.specs.Inner.{IsRecord}
+use Rattle.table.proofs.Pushing.{left, left-less}
+use Rattle.table.proofs.SpreadSteps.{records-most, spread-none, to-next, to-first, own-inside, spreadable-next, taxon-spreadable}
+use Rattle.table.proofs.SpreadSteps.{spread-taxon-done}
+use Rattle.table.proofs.SpreadSteps.{spreadable-last, chargeable-last, spread-last, spreadable-first, chargeable-first, crossable, meets}
+use Rattle.table.proofs.SpreadSteps.{spread-more}
+use Rattle.table.proofs.spread.spread.Reads as spread
+use Rattle.table.proofs.spread.spread.Kinds as spread-kinds
+use Rattle.table.proofs.spread.+spread.Lts-spread as spread-lts
+use Rattle.outline.proofs.fields.branch_of.Reads as branch-of-reads
+use Rattle.outline.proofs.fields.first_of.Reads as first-of-reads
+use Rattle.outline.proofs.fields.next_of.Reads as next-of-reads
+use Rattle.table.proofs.memory.charge_row.Reads as charge-row-reads
+use Rattle.table.proofs.spread.cross.Reads as cross-reads
+use Rattle.table.proofs.spread.meet.Reads as meet-reads
+use Rattle.table.proofs.spread.rest_at.Reads as rest-at-reads
+use Rattle.table.proofs.spread.spread_taxon.Reads as spread-taxon-reads
+use Rattle.table.proofs.spread.+spread.{statement}
+use Rattle.table.proofs.spread.+spread.Tie.{close}
+
+abbrev μ-spread : Measures 2 spread-kinds.ps ℕ
+μ-spread κs a = left (a .0 .now) (a .1 .0)
+
+abbrev spread-at : ℕ → In 2 spread-kinds.ps
+spread-at t = and 2 spread-kinds.ps (is 2 spread-kinds.ps μ-spread t) spread.Pre
+
+abbrev spread-below : ℕ → In 2 spread-kinds.ps
+spread-below t = and 2 spread-kinds.ps (falls 2 spread-kinds.ps _<_ μ-spread t) spread.Pre
+
+-- what it knows of the functions that it calls
+abbrev calls : ℕ → spread-lts.Claims
+calls t = (
+  next-of-reads.Asked,
+  next-of-reads.Learnt,
+  spread-below t,
+  spread.Post,
+  first-of-reads.Asked,
+  first-of-reads.Learnt,
+  rest-at-reads.Asked,
+  rest-at-reads.Learnt,
+  spread-taxon-reads.Asked,
+  spread-taxon-reads.Learnt,
+  branch-of-reads.Asked,
+  branch-of-reads.Learnt,
+  charge-row-reads.Asked,
+  charge-row-reads.Learnt,
+  cross-reads.Asked,
+  cross-reads.Learnt,
+  meet-reads.Asked,
+  meet-reads.Learnt,
+)
+
+module _ (t : ℕ) where
+  abbrev Else1 : Type 0
+  Else1 = spread-lts.Else1 (calls t) (spread-at t) spread.Post
+
+  abbrev start : Else1 → spread-lts.Start (calls t) (spread-at t) spread.Post
+  start c = c .before .before .before
+
+  -- record r is not 0
+  pos : (c : Else1) → 0 < start c .args .r
+  pos c = omega arith
+
+  record-r : (c : Else1) → IsRecord (start c .args .o .now) (start c .args .r)
+  record-r c = record { low = pos c; high = start c .pre .1 .most }
+
+  returns : spread-lts.Need-returns (calls t) (spread-at t) spread.Post
+  returns c = rw (c .if1 .taken) (spread-none (rw (c .if1 .taken) at (c .before .before .before .pre .1)))
+
+  add-own : spread-lts.Need-add-own (calls t) (spread-at t) spread.Post
+  add-own c = omega (arith, start c .pre .1 .most, start c .pre .1 .running .base .kept .size-most)
+
+  mul-own : spread-lts.Need-mul-own (calls t) (spread-at t) spread.Post
+  mul-own c = omega (arith, own-inside (start c .pre .1) (pos c) refl refl)
+
+  mul-own-2 : spread-lts.Need-mul-own-2 (calls t) (spread-at t) spread.Post
+  mul-own-2 c = omega (arith, own-inside (start c .pre .1) (pos c) refl refl)
+
+  next-of-requires : spread-lts.Need-next-of-requires (calls t) (spread-at t) spread.Post
+  next-of-requires c κs = record-r c
+
+  add-spread : spread-lts.Need-add-spread (calls t) (spread-at t) spread.Post
+  add-spread c = omega (arith, own-inside (start (c .before) .pre .1) (pos (c .before)) refl refl)
+
+  spread-requires : spread-lts.Need-spread-requires (calls t) (spread-at t) spread.Post
+  spread-requires c κs =
+      let n = c .before in
+      let h = start (n .before) .pre in
+      let p = pos (n .before) in
+      (omega (arith, left-less _ _ _ p (h .1 .most) (to-next (h .1) p (n .next-of .ensures) refl), h .0), spreadable-next (h .1) p (n .next-of .ensures) refl)
+
+  first-of-requires : spread-lts.Need-first-of-requires (calls t) (spread-at t) spread.Post
+  first-of-requires c κs = record-r (c .before .before .before .before .before)
+
+  add-rest-at : spread-lts.Need-add-rest-at (calls t) (spread-at t) spread.Post
+  add-rest-at c = omega (arith, own-inside (start (c .before .before .before .before .before .before .before) .pre .1) (pos (c .before .before .before .before .before .before .before)) refl refl)
+
+  spread-taxon-requires : spread-lts.Need-spread-taxon-requires (calls t) (spread-at t) spread.Post
+  spread-taxon-requires c κs =
+      let a = c .before in
+      let f = a .before .before in
+      let d = f .before .before .before in
+      let n = d .before .before in
+      let e = n .before in
+      let h = start e .pre .1 in
+      taxon-spreadable h (pos e) (n .next-of .ensures) (f .first-of .ensures) (d .spread .ensures) (d .spread .kept .1 .1 .1 .1 .0) (a .before .if2 .taken) (a .rest-at .ensures)
+
+  add-result : spread-lts.Need-add-result (calls t) (spread-at t) spread.Post
+  add-result c =
+      let f = c .before .before .before .before .before .before in
+      let d = f .before .before .before in
+      let n = d .before .before in
+      let e = n .before in
+      let h = start e .pre .1 in
+      omega (arith, d .spread .ensures .records, records-most _ (h .running .base .kept) (n .next-of .result) (to-next h (pos e) (n .next-of .ensures) refl .most), h .running .base .kept .size-most)
+
+  same-length : spread-lts.Need-same-length (calls t) (spread-at t) spread.Post
+  same-length c =
+      let r = c .before .before in
+      r .spread-taxon .kept .1 .1 .1 .1 .1 .0 ∙ r .before .before .before .before .before .before .before .spread .kept .1 .1 .1 .1 .0
+
+  returns-2 : spread-lts.Need-returns-2 (calls t) (spread-at t) spread.Post
+  returns-2 c =
+      let r = c .before .before in
+      let a = r .before .before in
+      let f = a .before .before in
+      let d = f .before .before .before in
+      let n = d .before .before in
+      let e = n .before in
+      let h = start e .pre .1 in
+      spread-taxon-done h (pos e) (n .next-of .ensures) (f .first-of .ensures) (d .spread .ensures) (d .spread .kept .1 .1 .1 .1 .0) (a .before .if2 .taken) (a .rest-at .ensures) (r .spread-taxon .ensures)
+
+  branch-of-requires : spread-lts.Need-branch-of-requires (calls t) (spread-at t) spread.Post
+  branch-of-requires c κs = record-r (c .before .before .before .before .before .before .before)
+
+  spread-requires-2 : spread-lts.Need-spread-requires-2 (calls t) (spread-at t) spread.Post
+  spread-requires-2 c κs =
+      let b = c .before .before in
+      let f = b .before .before in
+      let d = f .before .before .before in
+      let n = d .before .before in
+      let e = n .before in
+      let h = start e .pre .1 in (
+        omega (arith, left-less _ _ _ (pos e) (h .most) (to-first h (pos e) (n .next-of .ensures) (f .first-of .ensures)), start e .pre .0),
+        spreadable-last h (pos e) (n .next-of .ensures) (f .first-of .ensures) (d .spread .ensures) (d .spread .kept .1 .1 .1 .1 .0) (b .before .if2 .left) (c .before .if3 .taken),
+      )
+
+  charge-row-requires : spread-lts.Need-charge-row-requires (calls t) (spread-at t) spread.Post
+  charge-row-requires c κs =
+      let m = c .before .before .before in
+      let b = m .before .before .before in
+      let f = b .before .before in
+      let d = f .before .before .before in
+      let n = d .before .before in
+      let e = n .before in
+      let h = start e .pre .1 in
+      rw (b .branch-of .ensures)
+      (chargeable-last h (pos e) (n .next-of .ensures) (f .first-of .ensures) (d .spread .ensures) (d .spread .kept .1 .1 .1 .1 .0) (b .before .if2 .left) (m .before .before .if3 .taken)
+      (m .spread2 .ensures) (m .spread2 .kept .1 .1 .1 .1 .0))
+
+  add-result-2 : spread-lts.Need-add-result-2 (calls t) (spread-at t) spread.Post
+  add-result-2 c =
+      let m = c .before .before .before .before .before .before in
+      let b = m .before .before .before in
+      let f = b .before .before in
+      let d = f .before .before .before in
+      let n = d .before .before in
+      let e = n .before in
+      let h = start e .pre .1 in
+      omega (arith, m .spread2 .ensures .records, records-most _ (h .running .base .kept) (f .first-of .result) (to-first h (pos e) refl (f .first-of .ensures) .most), h .running .base .kept .size-most)
+
+  same-length-2 : spread-lts.Need-same-length-2 (calls t) (spread-at t) spread.Post
+  same-length-2 c =
+      let r = c .before .before in
+      let m = r .before .before .before .before in
+      r .charge-row .kept .0 ∙ m .spread2 .kept .1 .1 .1 .1 .0
+      ∙ m .before .before .before .before .before .before .before .before .spread .kept .1 .1 .1 .1 .0
+
+  returns-3 : spread-lts.Need-returns-3 (calls t) (spread-at t) spread.Post
+  returns-3 c =
+      let r = c .before .before in
+      let m = r .before .before .before .before in
+      let b = m .before .before .before in
+      let f = b .before .before in
+      let d = f .before .before .before in
+      let n = d .before .before in
+      let e = n .before in
+      let h = start e .pre .1 in
+      spread-last h (pos e) (n .next-of .ensures) (f .first-of .ensures) (d .spread .ensures) (d .spread .kept .1 .1 .1 .1 .0) (b .before .if2 .left) (m .before .before .if3 .taken)
+      (m .spread2 .ensures) (m .spread2 .kept .1 .1 .1 .1 .0) (rw (b .branch-of .ensures) at (r .charge-row .ensures))
+
+  spread-requires-3 : spread-lts.Need-spread-requires-3 (calls t) (spread-at t) spread.Post
+  spread-requires-3 c κs =
+      let b = c .before .before in
+      let f = b .before .before in
+      let d = f .before .before .before in
+      let n = d .before .before in
+      let e = n .before in
+      let h = start e .pre .1 in (
+        omega (arith, left-less _ _ _ (pos e) (h .most) (to-first h (pos e) (n .next-of .ensures) (f .first-of .ensures)), start e .pre .0),
+        spreadable-first h (pos e) (n .next-of .ensures) (f .first-of .ensures) (d .spread .ensures) (d .spread .kept .1 .1 .1 .1 .0) (b .before .if2 .left) (c .before .if3 .left),
+      )
+
+  charge-row-requires-2 : spread-lts.Need-charge-row-requires-2 (calls t) (spread-at t) spread.Post
+  charge-row-requires-2 c κs =
+      let m = c .before .before .before in
+      let b = m .before .before .before in
+      let f = b .before .before in
+      let d = f .before .before .before in
+      let n = d .before .before in
+      let e = n .before in
+      let h = start e .pre .1 in
+      rw (b .branch-of .ensures)
+      (chargeable-first h (pos e) (n .next-of .ensures) (f .first-of .ensures) (d .spread .ensures) (d .spread .kept .1 .1 .1 .1 .0) (b .before .if2 .left) (m .before .before .if3 .left)
+      (m .spread3 .ensures) (m .spread3 .kept .1 .1 .1 .1 .0))
+
+  cross-requires : spread-lts.Need-cross-requires (calls t) (spread-at t) spread.Post
+  cross-requires c κs =
+      let g = c .before .before .before in
+      let m = g .before .before .before .before in
+      let b = m .before .before .before in
+      let f = b .before .before in
+      let d = f .before .before .before in
+      let n = d .before .before in
+      let e = n .before in
+      let h = start e .pre .1 in
+      crossable h (pos e) (n .next-of .ensures) (f .first-of .ensures) (d .spread .ensures) (d .spread .kept .1 .1 .1 .1 .0) (b .before .if2 .left) (m .before .before .if3 .left)
+      (m .spread3 .ensures) (m .spread3 .kept .1 .1 .1 .1 .0)
+      (rw (b .branch-of .ensures) at (g .charge-row2 .ensures)) (g .charge-row2 .kept .0)
+
+  meet-requires : spread-lts.Need-meet-requires (calls t) (spread-at t) spread.Post
+  meet-requires c κs =
+      let x = c .before .before .before in
+      let g = x .before .before .before .before in
+      let m = g .before .before .before .before in
+      let b = m .before .before .before in
+      let f = b .before .before in
+      let d = f .before .before .before in
+      let n = d .before .before in
+      let e = n .before in
+      let h = start e .pre .1 in
+      meets h (pos e) (n .next-of .ensures) (f .first-of .ensures) (d .spread .ensures) (d .spread .kept .1 .1 .1 .1 .0) (b .before .if2 .left) (m .before .before .if3 .left)
+      (m .spread3 .ensures) (m .spread3 .kept .1 .1 .1 .1 .0)
+      (rw (b .branch-of .ensures) at (g .charge-row2 .ensures)) (g .charge-row2 .kept .0) (x .cross .ensures) (x .cross .kept .1 .1 .1 .1 .1 .0)
+
+  add-result-3 : spread-lts.Need-add-result-3 (calls t) (spread-at t) spread.Post
+  add-result-3 c =
+      let u = c .before .before in
+      let x = u .before .before .before .before in
+      let g = x .before .before .before .before in
+      let m = g .before .before .before .before in
+      let b = m .before .before .before in
+      let f = b .before .before in
+      let d = f .before .before .before in
+      let n = d .before .before in
+      let e = n .before in
+      let h = start e .pre .1 in
+      omega (
+        arith,
+        d .spread .ensures .records,
+        m .spread3 .ensures .records,
+        records-most _ (h .running .base .kept) (n .next-of .result) (to-next h (pos e) (n .next-of .ensures) refl .most),
+        records-most _ (h .running .base .kept) (f .first-of .result) (to-first h (pos e) refl (f .first-of .ensures) .most),
+        h .running .base .kept .size-most,
+      )
+
+  add-result-4 : spread-lts.Need-add-result-4 (calls t) (spread-at t) spread.Post
+  add-result-4 c =
+      let u = c .before .before in
+      let x = u .before .before .before .before in
+      let g = x .before .before .before .before in
+      let m = g .before .before .before .before in
+      let b = m .before .before .before in
+      let f = b .before .before in
+      let d = f .before .before .before in
+      let n = d .before .before in
+      let e = n .before in
+      let h = start e .pre .1 in
+      omega (
+        arith,
+        d .spread .ensures .records,
+        m .spread3 .ensures .records,
+        records-most _ (h .running .base .kept) (n .next-of .result) (to-next h (pos e) (n .next-of .ensures) refl .most),
+        records-most _ (h .running .base .kept) (f .first-of .result) (to-first h (pos e) refl (f .first-of .ensures) .most),
+        h .running .base .kept .size-most,
+      )
+
+  same-length-3 : spread-lts.Need-same-length-3 (calls t) (spread-at t) spread.Post
+  same-length-3 c =
+      let u = c .before .before in
+      let x = u .before .before .before .before in
+      let g = x .before .before .before .before in
+      let m = g .before .before .before .before in
+      u .meet .kept .0 ∙ x .cross .kept .1 .1 .1 .1 .1 .0 ∙ g .charge-row2 .kept .0 ∙ m .spread3 .kept .1 .1 .1 .1 .0
+      ∙ m .before .before .before .before .before .before .before .before .spread .kept .1 .1 .1 .1 .0
+
+  returns-4 : spread-lts.Need-returns-4 (calls t) (spread-at t) spread.Post
+  returns-4 c =
+      let u = c .before .before in
+      let x = u .before .before .before .before in
+      let g = x .before .before .before .before in
+      let m = g .before .before .before .before in
+      let b = m .before .before .before in
+      let f = b .before .before in
+      let d = f .before .before .before in
+      let n = d .before .before in
+      let e = n .before in
+      let h = start e .pre .1 in
+      spread-more h (pos e) (n .next-of .ensures) (f .first-of .ensures) (d .spread .ensures) (d .spread .kept .1 .1 .1 .1 .0) (b .before .if2 .left) (m .before .before .if3 .left)
+      (m .spread3 .ensures) (m .spread3 .kept .1 .1 .1 .1 .0)
+      (rw (b .branch-of .ensures) at (g .charge-row2 .ensures)) (g .charge-row2 .kept .0) (x .cross .ensures) (x .cross .kept .1 .1 .1 .1 .1 .0)
+      (u .meet .ensures)
+
+pub +spread-spec : {M : Type 1} → statement M
++spread-spec =
+    close μ-spread
+    (λ t.
+    spread-lts.spec (calls t) (spread-at t) spread.Post (returns t) (add-own t) (mul-own t) (mul-own-2 t) (next-of-requires t) (add-spread t)
+    (spread-requires t) (first-of-requires t) (add-rest-at t) (λ c κs. search needs) (spread-taxon-requires t) (add-result t) (same-length t)
+    (returns-2 t) (branch-of-requires t) (λ c. search needs) (spread-requires-2 t) (charge-row-requires t) (add-result-2 t) (same-length-2 t)
+    (returns-3 t) (spread-requires-3 t) (charge-row-requires-2 t) (cross-requires t) (meet-requires t) (add-result-3 t) (add-result-4 t)
+    (same-length-3 t) (returns-4 t))

@@ -1,0 +1,43 @@
+-- Candidates in two words each, and a list of numbers as candidates, cell by cell.
+use Prim.Native.Nat.{ℕ, _+_, _*_, _-_, _/_, _%_, _^_, _<_}
+use mathlib.Core.List.{List}
+use lib.Dec.{eqb}
+use lib.ListN.{getD}
+use Rattle.outline.specs.Lists.{pick}
+use Rattle.laws.specs.Candidate.{Cand, none, some}
+use Rattle.table.specs.declared.candidate.Candidate.{Candidate}
+
+-- times this, a diversity leaves room for a cost below it
+abbrev pub unit : ℕ
+unit = 65536
+
+-- the candidate of a score and a set; the score is (diversity + 1) times the unit, less the cost, or 0 for none
+unfoldable pub seen : ℕ → ℕ → Cand
+seen score set =
+    pick (eqb score 0) none (some (record { diversity = (score - 1) / unit; cost = unit - 1 - (score - 1) % unit; code = set }))
+
+unfoldable pub view : Candidate → Cand
+view c = seen (c .score) (c .set)
+
+-- its parts, 0 for none
+unfoldable pub diversityOf : Cand → ℕ
+diversityOf none = 0
+diversityOf (some v) = v .diversity
+
+unfoldable pub costOf : Cand → ℕ
+costOf none = 0
+costOf (some v) = v .cost
+
+unfoldable pub codeOf : Cand → ℕ
+codeOf none = 0
+codeOf (some v) = v .code
+
+-- the sums of two candidates keep to their words
+pub record Joinable (c d : Cand) : Type 0 where
+  pub diversity-fits : diversityOf c + diversityOf d < 2 ^ 40
+  pub cost-fits : costOf c + costOf d < unit
+  pub code-fits : codeOf c + codeOf d < 2 ^ 64
+
+-- the candidate at a cell, which is two numbers of a list
+unfoldable pub cell : List ℕ → ℕ → Cand
+cell l k = seen (getD l (2 * k) 0) (getD l (2 * k + 1) 0)

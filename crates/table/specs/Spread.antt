@@ -1,0 +1,104 @@
+-- The unrooted way: what spreading asks, the running optimum that it betters, and what it leaves.
+use Prim.Native.Nat.{ℕ, _+_, _*_, _^_, _<_, _≤_}
+use mathlib.Core.Path.{_≡_}
+use mathlib.Core.Logic.{_⊎_}
+use mathlib.Core.Bool.{false}
+use mathlib.Core.List.{List}
+use lib.ListN.{length}
+use Rattle.outline.specs.Outline.{size, next, first, branch, price, isTaxon}
+use Rattle.laws.specs.Candidate.{nothingWorth, some, betterOf, oneAt}
+use Rattle.laws.specs.Forest.{Forest, sumIn, tree}
+use Rattle.laws.specs.Numbers.{weight}
+use Rattle.laws.proofs.Best.{From}
+use Rattle.rows.specs.Rows.{Row, joinRow, rootedRow, aloneRow, crossRow, acrossRow}
+use Rattle.rows.proofs.Bounds.{Small}
+use Rattle.table.specs.Cells.{cell}
+use Rattle.table.specs.Memory.{rowAt, joinOver}
+use Rattle.table.specs.Table.{IsTaxon, taxonWorth, start, Base}
+
+-- the four rows before the records': no set, nothing chosen, the running optimum, which is nothing or better
+pub record Running (o : List ℕ) (w : ℕ) (l : List ℕ) : Type 0 where
+  pub base : Base o w l
+  pub nothing-row : (b : ℕ) → b < w → cell l (w + b) ≡ some nothingWorth
+  pub least : (b : ℕ) → b < w → betterOf (cell l (2 * w + b)) (some nothingWorth) ≡ cell l (2 * w + b)
+
+-- how many records stand in a forest
+abbrev pub recordsIn : Forest → ℕ
+recordsIn F = sumIn (λ r f. 1) F
+
+-- m is l with the running optimum bettered by a row, and else changed only where a test holds
+pub record Bettered (w : ℕ) (x : Row) (l m : List ℕ) : Type 0 where
+  pub top : (b : ℕ) → b < w → cell m (2 * w + b) ≡ betterOf (cell l (2 * w + b)) (x b)
+  pub same : (k : ℕ) → (2 * w ≤ k → 3 * w ≤ k) → cell m k ≡ cell l k
+
+-- the running optimum is bettered by taxon r alone, and by taxon r with something of the row at `rest`
+abbrev pub BySingle : List ℕ → ℕ → ℕ → List ℕ → List ℕ → Type 0
+BySingle o r w l m = Bettered w (oneAt (taxonWorth o r 0)) l m
+
+abbrev pub ByPairs : List ℕ → ℕ → ℕ → ℕ → List ℕ → List ℕ → Type 0
+ByPairs o r rest w l m = Bettered w (joinRow (taxonWorth o r (branch o r)) (rowAt l rest)) l m
+
+-- what the chain of record r is spread to: its rooted row at `to`
+pub record Spreadable (o : List ℕ) (r to w : ℕ) (l : List ℕ) : Type 0 where
+  pub running : Running o w l
+  pub most : r ≤ size o
+  pub to-before : 0 < r → to + w ≤ start w r
+  pub to-above : 3 * w ≤ to
+
+pub record Spread (o : List ℕ) (r to w : ℕ) (l m : List ℕ) (count : ℕ) : Type 0 where
+  pub row : 0 < r → (b : ℕ) → b < w → cell m (to + b) ≡ rootedRow o (weight o) (tree o r) b
+  pub top : (b : ℕ) → b < w → cell m (2 * w + b) ≡ betterOf (cell l (2 * w + b)) (acrossRow o (weight o) (tree o r) b)
+  pub same : (k : ℕ) → (0 < r → k < start w r) → (0 < r → to ≤ k → to + w ≤ k) → (2 * w ≤ k → 3 * w ≤ k) → cell m k ≡ cell l k
+  pub records : count ≡ recordsIn (tree o r)
+
+-- taxon r, and the row of the rest of its chain at `rest`
+pub record TaxonSpreadable (o : List ℕ) (r rest to w : ℕ) (l : List ℕ) : Type 0 where
+  pub running : Running o w l
+  pub is : IsTaxon o r
+  pub to-above : 3 * w ≤ to
+  pub to-inside : 2 * (to + w) ≤ length l
+  pub rest-place : (rest ≡ 0) ⊎ (to + w ≤ rest)
+  pub rest-inside : 2 * (rest + w) ≤ length l
+  pub most-diversity : ℕ
+  pub most-code : ℕ
+  pub small : (b : ℕ) → b < w → From (Small most-diversity most-code) b (cell l (rest + b))
+  pub diversity-fits : branch o r + most-diversity < 2 ^ 40
+  pub code-fits : weight o r + most-code < 2 ^ 64
+
+-- the taxon alone, which has no diversity, and the taxon with something of the rest have bettered the running optimum
+pub record TaxonSpread (o : List ℕ) (r rest to w : ℕ) (l m : List ℕ) : Type 0 where
+  pub row : (b : ℕ) → b < w
+      → cell m (to + b) ≡ joinOver (some (taxonWorth o r (branch o r))) (price o r) (λ i. some nothingWorth) (rowAt l rest) (rowAt l rest) b
+  pub top : (b : ℕ) → b < w
+      → cell m (2 * w + b)
+      ≡ betterOf (betterOf (cell l (2 * w + b)) (oneAt (taxonWorth o r 0) b)) (joinRow (taxonWorth o r (branch o r)) (rowAt l rest) b)
+  pub same : (k : ℕ) → (to ≤ k → to + w ≤ k) → (2 * w ≤ k → 3 * w ≤ k) → cell m k ≡ cell l k
+
+-- the two rows of group r hold what its clade has alone and what the rest of its chain has
+pub record Crossable (o : List ℕ) (r to w : ℕ) (l : List ℕ) : Type 0 where
+  pub base : Base o w l
+  pub positive : 0 < r
+  pub most : r ≤ size o
+  pub group : isTaxon o r ≡ false
+  pub to-above : w ≤ to
+  pub to-before : to + w ≤ start w r
+  pub more : 0 < next o r
+  pub alone-row : (b : ℕ) → b < w → cell l (start w r + b) ≡ aloneRow o (weight o) r false (tree o (first o r)) b
+  pub rest-row : (b : ℕ) → b < w → cell l (start w r + w + b) ≡ rootedRow o (weight o) (tree o (next o r)) b
+
+-- the crossing row stands at `to`; the rows up to r's are else as they were
+pub record Crossed (o : List ℕ) (r to w : ℕ) (l m : List ℕ) : Type 0 where
+  pub row : (b : ℕ) → b < w → cell m (to + b) ≡ crossRow o (weight o) r false (tree o (first o r)) (tree o (next o r)) b
+  pub same : (k : ℕ) → k < start w r + 2 * w → (to ≤ k → to + w ≤ k) → cell m k ≡ cell l k
+
+-- rows for a meeting: the running optimum, `to`, and the two at `own`
+pub record Meets (l : List ℕ) (own to w : ℕ) : Type 0 where
+  pub wide : 0 < w
+  pub to-above : 3 * w ≤ to
+  pub to-before : to + w ≤ own
+  pub inside : 2 * (own + 2 * w) ≤ length l
+
+pub record Met (own to w : ℕ) (l m : List ℕ) : Type 0 where
+  pub top : (b : ℕ) → b < w → cell m (2 * w + b) ≡ betterOf (cell l (2 * w + b)) (cell l (to + b))
+  pub row : (b : ℕ) → b < w → cell m (to + b) ≡ betterOf (betterOf (cell l (own + b)) (cell l (own + w + b))) (cell l (to + b))
+  pub same : (k : ℕ) → k < own → (to ≤ k → to + w ≤ k) → (2 * w ≤ k → 3 * w ≤ k) → cell m k ≡ cell l k

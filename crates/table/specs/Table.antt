@@ -1,0 +1,98 @@
+-- The table: where its rows stand, what is asked before a row is pushed or spread, and what is there afterwards.
+use Prim.Native.Nat.{ℕ, _+_, _*_, _-_, _^_, _<_, _≤_}
+use mathlib.Core.Path.{_≡_}
+use mathlib.Core.Logic.{_⊎_}
+use mathlib.Core.Bool.{true}
+use mathlib.Core.List.{List}
+use lib.Dec.{eqb}
+use lib.ListN.{length}
+use Rattle.outline.specs.Lists.{pick}
+use Rattle.outline.specs.Outline.{size, branch, price, isTaxon}
+use Rattle.outline.proofs.Kept.{Kept}
+use Rattle.diversity.specs.Search.{optimum}
+use Rattle.laws.specs.Candidate.{Value, none, some, betterOf}
+use Rattle.laws.specs.Forest.{Forest, tree}
+use Rattle.laws.specs.Numbers.{weight, worth}
+use Rattle.rows.specs.Rows.{Row, betterRow, joinRow, pushed}
+use Rattle.rows.proofs.Bounds.{SmallRow, branches, codes}
+use Rattle.table.specs.Cells.{unit, cell}
+use Rattle.table.specs.Memory.{rowAt, Written, Joins, joinOver}
+
+-- record r of an accepted outline is a taxon
+pub record IsTaxon (o : List ℕ) (r : ℕ) : Type 0 where
+  pub kept : Kept o
+  pub low : 1 ≤ r
+  pub high : r ≤ size o
+  pub taxon : isTaxon o r ≡ true
+
+-- what taxon r alone is worth, at the diversity that it has
+abbrev pub taxonWorth : List ℕ → ℕ → ℕ → Value
+taxonWorth o r d = record { diversity = d; cost = price o r; code = weight o r }
+
+-- what making a row of taxon r asks and leaves: joined with the better of x and y, or else y
+abbrev pub TaxonJoins : List ℕ → ℕ → ℕ → ℕ → ℕ → ℕ → List ℕ → Type 0
+TaxonJoins o r x y to w l = Joins l to (some (taxonWorth o r (branch o r))) (price o r) x y y w
+
+abbrev pub TaxonRow : List ℕ → ℕ → ℕ → ℕ → ℕ → ℕ → List ℕ → List ℕ → Type 0
+TaxonRow o r x y to w l m = Written to 0 w (joinOver (some (taxonWorth o r (branch o r))) (price o r) (rowAt l x) (rowAt l y) (rowAt l y)) l m
+
+-- what bettering a row by taxon r, at the diversity d and joined with x, asks and leaves
+abbrev pub ByTaxonJoins : List ℕ → ℕ → ℕ → ℕ → ℕ → ℕ → List ℕ → Type 0
+ByTaxonJoins o r d x to w l = Joins l to (some (taxonWorth o r d)) (price o r) x 0 to w
+
+abbrev pub ByTaxon : List ℕ → ℕ → ℕ → ℕ → ℕ → ℕ → List ℕ → List ℕ → Type 0
+ByTaxon o r d x to w l m = Written to 0 w (betterRow (joinRow (taxonWorth o r d) (rowAt l x)) (rowAt l to)) l m
+
+-- where the two rows of record r begin, of w columns each
+abbrev pub start : ℕ → ℕ → ℕ
+start w r = 2 * ((r + 1) * w)
+
+-- before them stand four rows: no set in any column, nothing chosen, the top row, and one more
+pub record Base (o : List ℕ) (w : ℕ) (l : List ℕ) : Type 0 where
+  pub kept : Kept o
+  pub wide : 0 < w
+  pub narrow : w < unit
+  pub long : 2 * start w (size o + 1) ≤ length l
+  pub none-row : (b : ℕ) → b < w → cell l b ≡ none
+
+-- the branches and the codes of a forest can be added to the candidates of a row
+pub record Room (o : List ℕ) (w : ℕ) (F : Forest) (x : Row) : Type 0 where
+  pub most-diversity : ℕ
+  pub most-code : ℕ
+  pub small : SmallRow most-diversity most-code (w - 1) x
+  pub diversity-fits : most-diversity + branches o F < 2 ^ 40
+  pub code-fits : most-code + codes (weight o) F < 2 ^ 64
+
+-- what pushing the row at `after` through the chain of record r to the row at `to` asks: both stand before the rows of r
+pub record Ready (o : List ℕ) (r after to w : ℕ) (l : List ℕ) : Type 0 where
+  pub base : Base o w l
+  pub most : r ≤ size o
+  pub after-before : 0 < r → after + w ≤ start w r
+  pub to-before : 0 < r → to + w ≤ start w r
+  pub to-above : w ≤ to
+  pub apart : (to + w ≤ after) ⊎ (after + w ≤ to)
+  pub room : Room o w (tree o r) (rowAt l after)
+
+-- what it leaves: the pushed row at `to`, or at 0 if there is no record; else the rows before r's are as they were
+pub record Done (o : List ℕ) (r after to w : ℕ) (l m : List ℕ) (at : ℕ) : Type 0 where
+  pub place : at ≡ pick (eqb r 0) 0 to
+  pub row : (b : ℕ) → b < w → cell m (at + b) ≡ pushed o (weight o) (tree o r) (rowAt l after) b
+  pub same : (k : ℕ) → (0 < r → k < start w r) → (0 < r → to ≤ k → to + w ≤ k) → cell m k ≡ cell l k
+
+-- the better of the rows at `after` and `rest` stands at a cell: where it was put, or where the first one stood if the second
+-- is the row of no set
+pub record Followed (to after rest w : ℕ) (l m : List ℕ) (at : ℕ) : Type 0 where
+  pub place : at ≡ pick (eqb rest 0) after to
+  pub row : (b : ℕ) → b < w → cell m (at + b) ≡ betterOf (cell l (after + b)) (cell l (rest + b))
+  pub same : (k : ℕ) → (to ≤ k → to + w ≤ k) → cell m k ≡ cell l k
+
+-- an accepted outline, some columns, and the numbers that the table takes: four for each column of each row
+pub record Fillable (o : List ℕ) (w : ℕ) (l : List ℕ) : Type 0 where
+  pub kept : Kept o
+  pub wide : 0 < w
+  pub narrow : w < unit
+  pub long : 4 * ((size o + 2) * w) ≤ length l
+
+-- in each column the top row holds what the exhaustive search ends with
+pub record Filled (o : List ℕ) (way w : ℕ) (l : List ℕ) : Type 0 where
+  pub row : (b : ℕ) → b < w → cell l (2 * w + b) ≡ some (worth o way (optimum o way b))

@@ -1,0 +1,96 @@
+// A candidate: a set of taxa and what it is worth, or none.
+ghost use mathlib.Core.Path.{_≡_};
+ghost use Prim.Native.Nat.{_+_, _<_, _^_};
+ghost use Rattle.laws.specs.Candidate.{none, some, betterOf, joinOf, chargeOf};
+ghost use Rattle.table.specs.Cells.{unit, view, diversityOf, costOf, Joinable};
+
+// Times this, a diversity leaves room for a cost below it.
+pub const UNIT: u64 = 65536;
+
+// Two words that compare as sets do, and are stored and read as they are.
+pub struct Candidate {
+    // (diversity + 1) times UNIT, less the cost; 0 for no set
+    pub score: u64,
+    // the taxa as a binary number, the first taxon the most significant digit
+    pub set: u64,
+}
+
+impl Candidate {
+    pub fn none() -> Self
+        ensures { λ c. ⌜ view c ≡ none ⌝ }
+    {
+        Self { score: 0, set: 0 }
+    }
+
+    // A set by its worth.
+    pub fn some(diversity: u64, cost: u64, set: u64) -> Self
+        requires { ⌜ (diversity < 2 ^ 40) × (cost < unit) ⌝ }
+        ensures { λ c. ⌜ view c ≡ some (record { diversity = diversity; cost = cost; code = set }) ⌝ }
+    {
+        Self {
+            score: (diversity + 1) * UNIT - cost,
+            set,
+        }
+    }
+
+    // More diversity, then less cost, then the greater number, which has the first taxon on which two sets differ.
+    pub fn better(self, other: Candidate) -> Self
+        ensures { λ c. ⌜ view c ≡ betterOf (view self) (view other) ⌝ }
+    {
+        if (self.score < other.score) | ((self.score == other.score) & (self.set < other.set)) {
+            return other;
+        }
+        self
+    }
+
+    // Both sets together, which have no taxon in common; none if either is.
+    pub fn joined(self, other: Candidate) -> Self
+        requires { ⌜ Joinable (view self) (view other) ⌝ }
+        ensures { λ c. ⌜ view c ≡ joinOf (view self) (view other) ⌝ }
+    {
+        if self.score == 0 {
+            return self;
+        }
+        if other.score == 0 {
+            return other;
+        }
+        Self {
+            score: self.score + other.score - UNIT,
+            set: self.set + other.set,
+        }
+    }
+
+    // The set with a branch above it.
+    pub fn charged(self, branch: u64) -> Self
+        requires { ⌜ diversityOf (view self) + branch < 2 ^ 40 ⌝ }
+        ensures { λ c. ⌜ view c ≡ chargeOf (view self) branch ⌝ }
+    {
+        if self.score == 0 {
+            return self;
+        }
+        Self {
+            score: self.score + branch * UNIT,
+            set: self.set,
+        }
+    }
+
+    // 0 for no set.
+    pub fn diversity(self) -> u64
+        ensures { λ d. ⌜ d ≡ diversityOf (view self) ⌝ }
+    {
+        if self.score == 0 {
+            return 0;
+        }
+        (self.score - 1) / UNIT
+    }
+
+    // 0 for no set.
+    pub fn cost(self) -> u64
+        ensures { λ d. ⌜ d ≡ costOf (view self) ⌝ }
+    {
+        if self.score == 0 {
+            return 0;
+        }
+        UNIT - 1 - (self.score - 1) % UNIT
+    }
+}
