@@ -2,7 +2,6 @@
 use Prim.Native.Nat.{ℕ, _+_, _*_, _<_, _≤_}
 use mathlib.Core.Path.{_≡_, refl, sym, ap, _∙_}
 use mathlib.Core.Logic.{inl, inr}
-use mathlib.Core.Bool.{false}
 use mathlib.Core.List.{List}
 use native.Mathlib.Omega.{arith}
 use lib.ListN.{length}
@@ -15,13 +14,13 @@ use Rattle.laws.specs.Forest.{tree}
 use Rattle.laws.specs.Numbers.{weight}
 use Rattle.laws.proofs.Order.{better-none}
 use Rattle.laws.proofs.Best.{From, from-same}
-use Rattle.rows.specs.Rows.{cladeRow, pushed, rootedRow, aloneRow, crossRow}
+use Rattle.rows.specs.Rows.{cladeRow, aloneRow, crossRow}
 use Rattle.rows.proofs.BestRows.{from-charge}
 use Rattle.rows.proofs.Bounds.{Small, branches, codes, rooted-small, pushed-small, branches-step, codes-step, branches-limit, codes-limit}
 use Rattle.rows.proofs.Steps.{pushed-same, cross-step}
 use Rattle.table.specs.Cells.{cell}
 use Rattle.table.specs.Memory.{Blank, Chargeable, Charging}
-use Rattle.table.specs.Table.{start, Ready, Done}
+use Rattle.table.specs.Table.{start, Ready, Done, pushedFrom, rootedFrom, aloneFrom}
 use Rattle.table.specs.Spread.{Crossable, Crossed}
 use Rattle.table.proofs.Pushing.{gap, small-diversity}
 
@@ -81,7 +80,7 @@ module _ {o : List ℕ} {r to w : ℕ} {l₀ : List ℕ} (s : Crossable o r to w
     at-to : at ≡ to
     at-to = h₁ .place ∙ rw (ne-eqb f 0 (eqb-false f 0 (s .group)))
 
-    pushed₁ : (b : ℕ) → b < w → cell l₁ (to + b) ≡ pushed o (weight o) (tree o f) (rootedRow o (weight o) (tree o n)) b
+    pushed₁ : (b : ℕ) → b < w → cell l₁ (to + b) ≡ pushedFrom o f (rootedFrom o n) b
     pushed₁ b h =
         ap (λ t. cell l₁ (t + b)) (sym at-to) ∙ h₁ .row b h
         ∙ pushed-same o (weight o) (tree o f) b (λ i k. s .rest-row i (omega arith))
@@ -114,7 +113,7 @@ module _ {o : List ℕ} {r to w : ℕ} {l₀ : List ℕ} (s : Crossable o r to w
 
   -- the rest, pushed over the clade
   alone-small : (b : ℕ)
-      → From (Small (branch o r + branches o (tree o f)) (codes (weight o) (tree o f))) b (aloneRow o (weight o) r false (tree o f) b)
+      → From (Small (branch o r + branches o (tree o f)) (codes (weight o) (tree o f))) b (aloneFrom o r f b)
   unfolding aloneRow
   alone-small b =
       from-same (λ v (q, small, e). rw e (record { diversity-most = omega (arith, small .diversity-most); code-most = small .code-most }))

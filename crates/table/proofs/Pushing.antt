@@ -17,13 +17,13 @@ use Rattle.laws.specs.Forest.{tree}
 use Rattle.laws.specs.Numbers.{weight}
 use Rattle.laws.proofs.Order.{better-none}
 use Rattle.laws.proofs.Best.{From, nothing, this, from-better}
-use Rattle.rows.specs.Rows.{Row, betterRow, taxonRooted, cladeRow, pushed}
+use Rattle.rows.specs.Rows.{Row, betterRow, taxonRooted, cladeRow}
 use Rattle.rows.proofs.Bounds.{Small, SmallRow, small-more, branches, codes, pushed-small, branches-step, codes-step}
 use Rattle.rows.proofs.Steps.{pushed-same, pushed-zero, pushed-step}
 use Rattle.table.specs.Cells.{cell, diversityOf, costOf, codeOf}
 use Rattle.table.specs.Memory.{rowAt, Blank, Betters, Chargeable, Charging, Bettering}
 use Rattle.table.proofs.TaxonRows.{join-row, join-same}
-use Rattle.table.specs.Table.{IsTaxon, start, Base, Ready, Done, Followed, TaxonRow, TaxonJoins}
+use Rattle.table.specs.Table.{IsTaxon, start, Base, Ready, Done, Followed, TaxonRow, TaxonJoins, pushedFrom}
 
 -- ---- places
 pub gap : (w m n : ℕ) → m < n → start w m + 2 * w ≤ start w n
@@ -108,7 +108,7 @@ module _ {o : List ℕ} {r after to w : ℕ} {l₀ : List ℕ} (ready : Ready o 
   x = rowAt l₀ after
 
   abbrev y : Row
-  y = pushed o (weight o) (tree o n) x
+  y = pushedFrom o n x
 
   abbrev follow : Row
   follow = betterRow x y
@@ -132,7 +132,7 @@ module _ {o : List ℕ} {r after to w : ℕ} {l₀ : List ℕ} (ready : Ready o 
 
   -- the pushed row, from the rest of the chain and from the members
   here : (b : ℕ)
-      → pushed o (weight o) (tree o r) x b ≡ betterOf (cladeRow o (weight o) r (isTaxon o r) follow (pushed o (weight o) (tree o f) follow) b) (y b)
+      → pushedFrom o r x b ≡ betterOf (cladeRow o (weight o) r (isTaxon o r) follow (pushedFrom o f follow) b) (y b)
   here b = rw (en, ef) (pushed-step o (kept .linked) (weight o) r pos (ready .most) b x)
 
   placed : to ≡ pick (eqb r 0) 0 to
@@ -190,11 +190,15 @@ module _ {o : List ℕ} {r after to w : ℕ} {l₀ : List ℕ} (ready : Ready o 
         first-inside = omega (arith, ready .after-before pos, own-inside);
         first-apart = ready .apart;
         second-inside = rest-inside;
-        second-apart = ⊎-elim (λ (e : rest ≡ 0). inr (omega (arith, ready .to-above))) (λ (e : rest ≡ start w r + w). inl (omega (arith, ready .to-before pos))) rest-place;
+        second-apart =
+            ⊎-elim (λ (e : rest ≡ 0). inr (omega (arith, ready .to-above)))
+            (λ (e : rest ≡ start w r + w). inl (omega (arith, ready .to-before pos))) rest-place;
         second-blank = rest-blank;
         over = record {
           inside = rest-inside;
-          aside = ⊎-elim (λ (e : rest ≡ 0). inr (omega (arith, ready .to-above))) (λ (e : rest ≡ start w r + w). inl (omega (arith, ready .to-before pos))) rest-place;
+          aside =
+              ⊎-elim (λ (e : rest ≡ 0). inr (omega (arith, ready .to-above)))
+              (λ (e : rest ≡ start w r + w). inl (omega (arith, ready .to-before pos))) rest-place;
         };
         blank = rest-blank;
         fits = λ i h.
@@ -216,7 +220,8 @@ module _ {o : List ℕ} {r after to w : ℕ} {l₀ : List ℕ} (ready : Ready o 
         place = placed;
         row = λ b h.
             v .row b (omega arith) h
-            ∙ ap₂ betterOf (join-same _ _ _ _ b (follow₁ (b - price o r) (omega arith)) ∙ join-row (taxonRooted o (weight o) r) follow b) (h₁ .row b h)
+            ∙ ap₂ betterOf (join-same _ _ _ _ b (follow₁ (b - price o r) (omega arith)) ∙ join-row (taxonRooted o (weight o) r) follow b)
+            (h₁ .row b h)
             ∙ rw (here b, taxon);
         same = λ k p q. v .same k (λ g. q pos (omega arith)) ∙ below₁ k (omega (arith, p pos));
       }
@@ -228,7 +233,9 @@ module _ {o : List ℕ} {r after to w : ℕ} {l₀ : List ℕ} (ready : Ready o 
       first = record { inside = omega (arith, ready .after-before pos, own-inside); aside = inr (ready .after-before pos) };
       second = record {
         inside = rest-inside;
-        aside = ⊎-elim (λ (e : rest ≡ 0). inr (omega (arith, ready .to-above, ready .to-before pos))) (λ (e : rest ≡ start w r + w). inl (omega arith)) rest-place;
+        aside =
+            ⊎-elim (λ (e : rest ≡ 0). inr (omega (arith, ready .to-above, ready .to-before pos)))
+            (λ (e : rest ≡ start w r + w). inl (omega arith)) rest-place;
       };
       blank = rest-blank;
     }
@@ -297,7 +304,7 @@ module _ {o : List ℕ} {r after to w : ℕ} {l₀ : List ℕ} (ready : Ready o 
         at-to : at₃ ≡ to
         at-to = h₃ .place ∙ rw (ne-eqb f 0 z)
 
-        members₃ : (b : ℕ) → b < w → cell l₃ (to + b) ≡ pushed o (weight o) (tree o f) follow b
+        members₃ : (b : ℕ) → b < w → cell l₃ (to + b) ≡ pushedFrom o f follow b
         members₃ b h =
             ap (λ t. cell l₃ (t + b)) (sym at-to) ∙ h₃ .row b h
             ∙ pushed-same o (weight o) (tree o f) b (λ i k. follow₂ i (omega arith))
@@ -311,7 +318,9 @@ module _ {o : List ℕ} {r after to w : ℕ} {l₀ : List ℕ} (ready : Ready o 
           charged = record { inside = omega (arith, ready .to-before pos, own-inside); aside = inl (omega arith) };
           over = record {
             inside = omega (arith, rest-inside);
-            aside = ⊎-elim (λ (e : rest ≡ 0). inr (omega (arith, ready .to-above))) (λ (e : rest ≡ start w r + w). inl (omega (arith, ready .to-before pos))) rest-place;
+            aside =
+                ⊎-elim (λ (e : rest ≡ 0). inr (omega (arith, ready .to-above)))
+                (λ (e : rest ≡ start w r + w). inl (omega (arith, ready .to-before pos))) rest-place;
           };
           blank = λ e b h. rest₃ b h ∙ sym (h₁ .row b h) ∙ rest-blank e b h;
           fits = λ i h.

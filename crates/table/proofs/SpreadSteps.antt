@@ -17,12 +17,12 @@ use Rattle.laws.specs.Numbers.{weight}
 use Rattle.laws.proofs.Sums.{total-most}
 use Rattle.laws.proofs.Forest.{tree-zero, tree-step, sum-part}
 use Rattle.laws.proofs.Order.{better-none}
-use Rattle.rows.specs.Rows.{betterRow, joinRow, taxonRooted, cladeRow, pushed, rootedRow, aloneRow, crossRow, singleRow, acrossRow}
+use Rattle.rows.specs.Rows.{betterRow, joinRow, taxonRooted, cladeRow, rootedRow, aloneRow, crossRow, singleRow, acrossRow}
 use Rattle.rows.proofs.Bounds.{branches, codes, rooted-small, branches-step, codes-step, branches-limit, codes-limit}
 use Rattle.rows.proofs.Steps.{pushed-zero, pushed-step, rooted-step, across-step, cross-step}
 use Rattle.table.specs.Cells.{cell}
 use Rattle.table.specs.Memory.{rowAt, Chargeable, chargeOver, Charging}
-use Rattle.table.specs.Table.{taxonWorth, start, Base}
+use Rattle.table.specs.Table.{taxonWorth, start, Base, pushedFrom, rootedFrom, acrossFrom, aloneFrom, crossFrom}
 use Rattle.table.specs.Spread.{Running, recordsIn, Spreadable, Spread, TaxonSpreadable, TaxonSpread, Crossable, Crossed, Meets, Met}
 use Rattle.table.proofs.Pushing.{gap, picked, small-diversity}
 use Rattle.table.proofs.Spreading.{least-kept, join-row-same, shuffle, blank-none}
@@ -30,11 +30,11 @@ use Rattle.table.proofs.TaxonRows.{join-row, join-same}
 
 -- no record
 module _ (o : List ℕ) (kept : Kept o) (b : ℕ) where
-  rooted-zero : rootedRow o (weight o) (tree o 0) b ≡ none
+  rooted-zero : rootedFrom o 0 b ≡ none
   unfolding rootedRow
   rooted-zero = pushed-zero o (kept .linked) (weight o) _ b
 
-  across-zero : acrossRow o (weight o) (tree o 0) b ≡ none
+  across-zero : acrossFrom o 0 b ≡ none
   unfolding acrossRow
   across-zero = ap (λ F. acrossRow o (weight o) F b) (tree-zero o)
 
@@ -121,13 +121,13 @@ module _ {o : List ℕ} {r to w : ℕ} {l₀ : List ℕ} (s : Spreadable o r to 
       taxon : isTaxon o r ≡ true
       taxon = eq-eqb _ _ (sym ef ∙ z)
 
-      rest-row : (b : ℕ) → b < w → cell l₁ (rest + b) ≡ rootedRow o (weight o) (tree o n) b
+      rest-row : (b : ℕ) → b < w → cell l₁ (rest + b) ≡ rootedFrom o n b
       rest-row b h = go n refl
         where
-          go : (k : ℕ) → n ≡ k → cell l₁ (rest + b) ≡ rootedRow o (weight o) (tree o n) b
+          go : (k : ℕ) → n ≡ k → cell l₁ (rest + b) ≡ rootedFrom o n b
           go zero e =
               let e′ : rest ≡ 0 = er ∙ rw e in
-              blank-none (running₁ .base) rest e′ b h ∙ sym (ap (λ q. rootedRow o (weight o) (tree o q) b) e ∙ rooted-zero o kept b)
+              blank-none (running₁ .base) rest e′ b h ∙ sym (ap (λ q. rootedFrom o q b) e ∙ rooted-zero o kept b)
           go (suc k) e =
               let e′ : rest ≡ start w r + w = er ∙ rw (ne-eqb n 0 (λ q. omega arith)) in
               ap (λ a. cell l₁ (a + b)) e′ ∙ h₁ .row (omega arith) b h
@@ -141,7 +141,9 @@ module _ {o : List ℕ} {r to w : ℕ} {l₀ : List ℕ} (s : Spreadable o r to 
             to-above = s .to-above;
             to-inside = omega (arith, s .to-before pos, own-inside);
             rest-place = ⊎-elim inl (λ (e : rest ≡ start w r + w). inr (omega (arith, s .to-before pos))) (picked (eqb n 0) er);
-            rest-inside = ⊎-elim (λ (e : rest ≡ 0). omega (arith, own-inside)) (λ (e : rest ≡ start w r + w). omega (arith, own-inside)) (picked (eqb n 0) er);
+            rest-inside =
+                ⊎-elim (λ (e : rest ≡ 0). omega (arith, own-inside)) (λ (e : rest ≡ start w r + w). omega (arith, own-inside))
+                (picked (eqb n 0) er);
             most-diversity = branches o (tree o n);
             most-code = codes (weight o) (tree o n);
             small = λ b h. rw (rest-row b h) (rooted-small o (weight o) (tree o n) b);
@@ -149,21 +151,22 @@ module _ {o : List ℕ} {r to w : ℕ} {l₀ : List ℕ} (s : Spreadable o r to 
             code-fits = omega (arith, weigh, codes-here, codes-limit o kept r (s .most));
           }
 
-      members-none : (b : ℕ) → acrossRow o (weight o) (tree o (first o r)) b ≡ none
-      members-none b = ap (λ q. acrossRow o (weight o) (tree o q) b) (sym ef ∙ z) ∙ across-zero o kept b
+      members-none : (b : ℕ) → acrossFrom o (first o r) b ≡ none
+      members-none b = ap (λ q. acrossFrom o q b) (sym ef ∙ z) ∙ across-zero o kept b
 
-      rooted-taxon : (b : ℕ) → rootedRow o (weight o) (tree o r) b
-          ≡ betterOf (joinRow (taxonRooted o (weight o) r) (betterRow (λ i. some nothingWorth) (rootedRow o (weight o) (tree o n))) b) (rootedRow o (weight o) (tree o n) b)
+      rooted-taxon : (b : ℕ) → rootedFrom o r b
+          ≡ betterOf (joinRow (taxonRooted o (weight o) r) (betterRow (λ i. some nothingWorth) (rootedFrom o n)) b) (rootedFrom o n b)
       unfolding rootedRow cladeRow
       rooted-taxon b = rw en (rw taxon at (pushed-step o (kept .linked) (weight o) r pos (s .most) b (λ i. some nothingWorth)))
 
-      across-taxon : (b : ℕ) → acrossRow o (weight o) (tree o r) b
-          ≡ betterOf (betterOf (oneAt (taxonWorth o r 0) b) (acrossRow o (weight o) (tree o n) b)) (joinRow (taxonRooted o (weight o) r) (rootedRow o (weight o) (tree o n)) b)
+      across-taxon : (b : ℕ) → acrossFrom o r b
+          ≡ betterOf (betterOf (oneAt (taxonWorth o r 0) b) (acrossFrom o n b)) (joinRow (taxonRooted o (weight o) r) (rootedFrom o n) b)
       unfolding singleRow crossRow cladeRow
       across-taxon b =
           rw en
           ((rw taxon at (across-step o (kept .linked) (weight o) r pos (s .most) b))
-          ∙ ap (λ c. betterOf (betterOf c (acrossRow o (weight o) (tree o (next o r)) b)) (joinRow (taxonRooted o (weight o) r) (rootedRow o (weight o) (tree o (next o r))) b))
+          ∙ ap
+          (λ c. betterOf (betterOf c (acrossFrom o (next o r) b)) (joinRow (taxonRooted o (weight o) r) (rootedFrom o (next o r)) b))
           (ap (betterOf (oneAt (taxonWorth o r 0) b)) (members-none b) ∙ better-none _))
 
       pub spread-taxon-done : {l₂ : List ℕ} → TaxonSpread o r rest to w l₁ l₂ → Spread o r to w l₀ l₂ (1 + later)
@@ -171,14 +174,15 @@ module _ {o : List ℕ} {r to w : ℕ} {l₀ : List ℕ} (s : Spreadable o r to 
         row = λ p b h.
             h₂ .row b h
             ∙ ap₂ betterOf
-            (join-same _ _ _ (betterRow (λ i. some nothingWorth) (rootedRow o (weight o) (tree o n))) b
+            (join-same _ _ _ (betterRow (λ i. some nothingWorth) (rootedFrom o n)) b
             (ap (betterOf (some nothingWorth)) (rest-row (b - price o r) (omega arith)))
             ∙ join-row (taxonRooted o (weight o) r) _ b)
             (rest-row b h)
             ∙ sym (rooted-taxon b);
         top = λ b h.
             h₂ .top b h
-            ∙ ap₂ betterOf (ap (λ c. betterOf c (oneAt (taxonWorth o r 0) b)) (h₁ .top b h)) (join-row-same _ _ (rootedRow o (weight o) (tree o n)) b (rest-row (b - price o r) (omega arith)))
+            ∙ ap₂ betterOf (ap (λ c. betterOf c (oneAt (taxonWorth o r 0) b)) (h₁ .top b h))
+            (join-row-same _ _ (rootedFrom o n) b (rest-row (b - price o r) (omega arith)))
             ∙ shuffle _ _ _ _ ∙ ap (betterOf (cell l₀ (2 * w + b))) (sym (across-taxon b));
         same = λ k p q g. h₂ .same k (q pos) g ∙ below₁ k (omega (arith, p pos)) g;
         records =
@@ -197,17 +201,17 @@ module _ {o : List ℕ} {r to w : ℕ} {l₀ : List ℕ} (s : Spreadable o r to 
       first-gap : start w r + 2 * w ≤ start w f
       first-gap = gap w r f (to-first .later positive)
 
-      rooted-group : (b : ℕ) → rootedRow o (weight o) (tree o r) b
-          ≡ betterOf (betterOf (aloneRow o (weight o) r false (tree o f) b) (rootedRow o (weight o) (tree o n) b)) (crossRow o (weight o) r false (tree o f) (tree o n) b)
+      rooted-group : (b : ℕ) → rootedFrom o r b
+          ≡ betterOf (betterOf (aloneFrom o r f b) (rootedFrom o n b)) (crossFrom o r f n b)
       rooted-group b = rw (en, ef) (rw group at (rooted-step o (kept .linked) (weight o) r pos (s .most) b))
 
-      across-group : (b : ℕ) → acrossRow o (weight o) (tree o r) b
-          ≡ betterOf (betterOf (acrossRow o (weight o) (tree o f) b) (acrossRow o (weight o) (tree o n) b)) (crossRow o (weight o) r false (tree o f) (tree o n) b)
+      across-group : (b : ℕ) → acrossFrom o r b
+          ≡ betterOf (betterOf (acrossFrom o f b) (acrossFrom o n b)) (crossFrom o r f n b)
       unfolding singleRow betterOf
       across-group b = rw (en, ef) (rw group at (across-step o (kept .linked) (weight o) r pos (s .most) b))
 
       -- a row of the members is charged with r's branch: it is what r's clade has alone
-      module _ {l₂ : List ℕ} {at : ℕ} (members : (b : ℕ) → b < w → cell l₂ (at + b) ≡ rootedRow o (weight o) (tree o f) b) (base₂ : Base o w l₂)
+      module _ {l₂ : List ℕ} {at : ℕ} (members : (b : ℕ) → b < w → cell l₂ (at + b) ≡ rootedFrom o f b) (base₂ : Base o w l₂)
           (above : w ≤ at) (inside : 2 * (at + w) ≤ length l₂) where
         pub chargeable-alone : Chargeable l₂ at at (branch o r) 0 w
         chargeable-alone = record {
@@ -215,10 +219,12 @@ module _ {o : List ℕ} {r to w : ℕ} {l₀ : List ℕ} (s : Spreadable o r to 
           charged = record { inside = inside; aside = inl (omega arith) };
           over = record { inside = omega (arith, inside); aside = inr (omega (arith, above)) };
           blank = blank-none base₂ 0;
-          fits = λ i h. rw (members i h) (omega (arith, small-diversity (rooted-small o (weight o) (tree o f) i), branches-here, branches-limit o kept r (s .most)));
+          fits = λ i h.
+              rw (members i h)
+              (omega (arith, small-diversity (rooted-small o (weight o) (tree o f) i), branches-here, branches-limit o kept r (s .most)));
         }
 
-        alone-row : (b : ℕ) → b < w → chargeOver (rowAt l₂ at) (branch o r) (rowAt l₂ 0) b ≡ aloneRow o (weight o) r false (tree o f) b
+        alone-row : (b : ℕ) → b < w → chargeOver (rowAt l₂ at) (branch o r) (rowAt l₂ 0) b ≡ aloneFrom o r f b
         unfolding aloneRow
         alone-row b h =
             ap (betterOf (chargeOf (cell l₂ (at + b)) (branch o r))) (blank-none base₂ 0 refl b h) ∙ better-none _
@@ -234,16 +240,16 @@ module _ {o : List ℕ} {r to w : ℕ} {l₀ : List ℕ} (s : Spreadable o r to 
           to-above = s .to-above;
         }
 
-        rest-none : (b : ℕ) → rootedRow o (weight o) (tree o n) b ≡ none
-        rest-none b = ap (λ q. rootedRow o (weight o) (tree o q) b) last ∙ rooted-zero o kept b
+        rest-none : (b : ℕ) → rootedFrom o n b ≡ none
+        rest-none b = ap (λ q. rootedFrom o q b) last ∙ rooted-zero o kept b
 
-        later-none : (b : ℕ) → acrossRow o (weight o) (tree o n) b ≡ none
-        later-none b = ap (λ q. acrossRow o (weight o) (tree o q) b) last ∙ across-zero o kept b
+        later-none : (b : ℕ) → acrossFrom o n b ≡ none
+        later-none b = ap (λ q. acrossFrom o q b) last ∙ across-zero o kept b
 
-        cross-none : (b : ℕ) → crossRow o (weight o) r false (tree o f) (tree o n) b ≡ none
+        cross-none : (b : ℕ) → crossFrom o r f n b ≡ none
         cross-none b =
             rw (en, ef) (rw group at (cross-step o (kept .linked) (weight o) r pos (s .most) b))
-            ∙ ap (λ q. pushed o (weight o) (tree o q) (aloneRow o (weight o) r false (tree o f)) b) last
+            ∙ ap (λ q. pushedFrom o q (aloneFrom o r f) b) last
             ∙ pushed-zero o (kept .linked) (weight o) _ b
 
         module _ {l₂ : List ℕ} {members : ℕ} (h₂ : Spread o f to w l₁ l₂ members) (k₂ : length l₂ ≡ length l₁) where
@@ -263,7 +269,7 @@ module _ {o : List ℕ} {r to w : ℕ} {l₀ : List ℕ} (s : Spreadable o r to 
                 ∙ sym (rooted-group b ∙ ap₂ betterOf (ap (betterOf _) (rest-none b) ∙ better-none _) (cross-none b) ∙ better-none _);
             top = λ b h.
                 v .same (2 * w + b) (λ q. omega (arith, s .to-above)) ∙ h₂ .top b h
-                ∙ ap (λ c. betterOf c (acrossRow o (weight o) (tree o f) b)) (h₁ .top b h) ∙ sym (better-none _) ∙ shuffle _ _ _ _
+                ∙ ap (λ c. betterOf c (acrossFrom o f b)) (h₁ .top b h) ∙ sym (better-none _) ∙ shuffle _ _ _ _
                 ∙ ap (betterOf (cell l₀ (2 * w + b))) (sym (across-group b ∙ ap (betterOf _) (cross-none b)));
             same = λ k p q g.
                 v .same k (λ e. q pos (omega arith)) ∙ h₂ .same k (λ e. omega (arith, first-gap, p pos)) (λ e. q pos) g
@@ -293,18 +299,18 @@ module _ {o : List ℕ} {r to w : ℕ} {l₀ : List ℕ} (s : Spreadable o r to 
           pub chargeable-first : Chargeable l₂ (start w r) (start w r) (branch o r) 0 w
           chargeable-first = chargeable-alone (h₂ .row positive) (running₂ .base) (omega (arith, own-above)) (omega (arith, own-inside))
 
-          rest₂ : (b : ℕ) → b < w → cell l₂ (start w r + w + b) ≡ rootedRow o (weight o) (tree o n) b
+          rest₂ : (b : ℕ) → b < w → cell l₂ (start w r + w + b) ≡ rootedFrom o n b
           rest₂ b h =
               h₂ .same (start w r + w + b) (λ p. omega (arith, first-gap)) (λ p q. omega arith) (λ q. omega (arith, own-above))
               ∙ h₁ .row next-positive b h
 
           module _ {l₃ : List ℕ} (h₃ : Charging (start w r) (start w r) (branch o r) 0 w l₂ l₃) (k₃ : length l₃ ≡ length l₂) where
-            alone₃ : (b : ℕ) → b < w → cell l₃ (start w r + b) ≡ aloneRow o (weight o) r false (tree o f) b
+            alone₃ : (b : ℕ) → b < w → cell l₃ (start w r + b) ≡ aloneFrom o r f b
             alone₃ b h =
                 h₃ .row b (omega arith) h
                 ∙ alone-row (h₂ .row positive) (running₂ .base) (omega (arith, own-above)) (omega (arith, own-inside)) b h
 
-            rest₃ : (b : ℕ) → b < w → cell l₃ (start w r + w + b) ≡ rootedRow o (weight o) (tree o n) b
+            rest₃ : (b : ℕ) → b < w → cell l₃ (start w r + w + b) ≡ rootedFrom o n b
             rest₃ b h = h₃ .same (start w r + w + b) (λ q. omega arith) ∙ rest₂ b h
 
             pub crossable : Crossable o r to w l₃
@@ -335,15 +341,15 @@ module _ {o : List ℕ} {r to w : ℕ} {l₀ : List ℕ} (s : Spreadable o r to 
                 inside = omega (arith, own-inside);
               }
 
-              cross₄ : (b : ℕ) → b < w → cell l₄ (to + b) ≡ crossRow o (weight o) r false (tree o f) (tree o n) b
+              cross₄ : (b : ℕ) → b < w → cell l₄ (to + b) ≡ crossFrom o r f n b
               cross₄ = rw (en, ef) (h₄ .row)
 
               top₄ : (b : ℕ) → b < w
-                  → cell l₄ (2 * w + b) ≡ betterOf (betterOf (cell l₀ (2 * w + b)) (acrossRow o (weight o) (tree o n) b)) (acrossRow o (weight o) (tree o f) b)
+                  → cell l₄ (2 * w + b) ≡ betterOf (betterOf (cell l₀ (2 * w + b)) (acrossFrom o n b)) (acrossFrom o f b)
               top₄ b h =
                   h₄ .same (2 * w + b) (omega (arith, own-above)) (λ q. omega (arith, s .to-above))
                   ∙ h₃ .same (2 * w + b) (λ q. omega (arith, own-above))
-                  ∙ h₂ .top b h ∙ ap (λ c. betterOf c (acrossRow o (weight o) (tree o f) b)) (h₁ .top b h)
+                  ∙ h₂ .top b h ∙ ap (λ c. betterOf c (acrossFrom o f b)) (h₁ .top b h)
 
               own₄ : (k : ℕ) → start w r ≤ k → k < start w r + 2 * w → cell l₄ k ≡ cell l₃ k
               own₄ k p h = h₄ .same k h (λ q. omega (arith, s .to-before pos))

@@ -168,7 +168,8 @@ module _ {o : List ℕ} {r rest to w : ℕ} {l : List ℕ} (s : TaxonSpreadable 
   unfolding joinRow
   bettered-none e = record {
     top = λ b h.
-        sym (ap (betterOf (cell l (2 * w + b))) (ap (joinOf (oneAt taxon b)) (blank-none base rest e (b - price o r) (omega arith)) ∙ join-none _) ∙ better-none _);
+        sym
+        (ap (betterOf (cell l (2 * w + b))) (ap (joinOf (oneAt taxon b)) (blank-none base rest e (b - price o r) (omega arith)) ∙ join-none _) ∙ better-none _);
     same = λ k g. refl;
   }
 
@@ -296,7 +297,8 @@ module _ {own to w : ℕ} {l₀ : List ℕ} (s : Meets l₀ own to w) where
             h₃ .row b (omega arith) k
             ∙ ap₂ betterOf
             (h₂ .row b (omega arith) k
-            ∙ ap₂ betterOf (h₁ .same (own + b) (λ q. omega (arith, s .to-above, s .to-before))) (h₁ .same (own + w + b) (λ q. omega (arith, s .to-above, s .to-before))))
+            ∙ ap₂ betterOf (h₁ .same (own + b) (λ q. omega (arith, s .to-above, s .to-before)))
+            (h₁ .same (own + w + b) (λ q. omega (arith, s .to-above, s .to-before))))
             (h₂ .same (to + b) (λ q. omega (arith, s .to-before)) ∙ h₁ .same (to + b) (λ q. omega (arith, s .to-above)));
         same = λ k p q g.
             h₃ .same k (λ e. q (omega arith)) ∙ h₂ .same k (λ e. omega arith) ∙ h₁ .same k (λ e. omega (arith, g (omega arith)));

@@ -12,13 +12,13 @@ use Rattle.laws.specs.Forest.{tree}
 use Rattle.laws.specs.Numbers.{weight}
 use Rattle.laws.proofs.Order.{better-same}
 use Rattle.laws.proofs.Best.{this}
-use Rattle.rows.specs.Rows.{rootedRow, acrossRow, topRow}
+use Rattle.rows.specs.Rows.{rootedRow, topRow}
 use Rattle.rows.proofs.Bounds.{branches-limit, codes-limit}
 use Rattle.rows.proofs.Steps.{pushed-same}
 use Rattle.rows.proofs.TopRow.{top-row}
 use Rattle.table.specs.Cells.{cell}
 use Rattle.table.specs.Memory.{Written, Betters, Bettering}
-use Rattle.table.specs.Table.{start, Base, Ready, Done, Fillable, Filled}
+use Rattle.table.specs.Table.{start, Base, Ready, Done, Fillable, Filled, acrossFrom}
 use Rattle.table.specs.Spread.{Spreadable, Spread}
 use Rattle.table.proofs.Pushing.{gap}
 
@@ -53,7 +53,9 @@ module _ {o : List ℕ} {w : ℕ} {l₀ : List ℕ} (s : Fillable o w l₀) wher
       room = record {
         most-diversity = 0;
         most-code = 0;
-        small = λ b h. rw (nothing₂ b (omega (arith, s .wide))) (this {v = nothingWorth} (record { diversity-most = omega arith; code-most = omega arith }) (omega arith));
+        small = λ b h.
+            rw (nothing₂ b (omega (arith, s .wide)))
+            (this {v = nothingWorth} (record { diversity-most = omega arith; code-most = omega arith }) (omega arith));
         diversity-fits = omega (arith, branches-limit o (s .kept) 1 (s .kept .linked .filled));
         code-fits = omega (arith, codes-limit o (s .kept) 1 (s .kept .linked .filled));
       };
@@ -102,6 +104,6 @@ module _ {o : List ℕ} {w : ℕ} {l₀ : List ℕ} (s : Fillable o w l₀) wher
       unfolding topRow
       filled-unrooted {way} n h₄ = record {
         row = λ b h.
-            h₄ .top b h ∙ ap (λ c. betterOf c (acrossRow o (weight o) (tree o 1) b)) (h₃ .row b (omega arith) h)
+            h₄ .top b h ∙ ap (λ c. betterOf c (acrossFrom o 1 b)) (h₃ .row b (omega arith) h)
             ∙ rw (ne-eqb way 0 n) at (top-row o (s .kept .linked) way b);
       }

@@ -10,11 +10,11 @@ use Rattle.laws.specs.Candidate.{nothingWorth, some, betterOf, oneAt}
 use Rattle.laws.specs.Forest.{Forest, sumIn, tree}
 use Rattle.laws.specs.Numbers.{weight}
 use Rattle.laws.proofs.Best.{From}
-use Rattle.rows.specs.Rows.{Row, joinRow, rootedRow, aloneRow, crossRow, acrossRow}
+use Rattle.rows.specs.Rows.{Row, joinRow}
 use Rattle.rows.proofs.Bounds.{Small}
 use Rattle.table.specs.Cells.{cell}
 use Rattle.table.specs.Memory.{rowAt, joinOver}
-use Rattle.table.specs.Table.{IsTaxon, taxonWorth, start, Base}
+use Rattle.table.specs.Table.{IsTaxon, taxonWorth, start, Base, rootedFrom, acrossFrom, aloneFrom, crossFrom}
 
 -- the four rows before the records': no set, nothing chosen, the running optimum, which is nothing or better
 pub record Running (o : List ℕ) (w : ℕ) (l : List ℕ) : Type 0 where
@@ -46,8 +46,8 @@ pub record Spreadable (o : List ℕ) (r to w : ℕ) (l : List ℕ) : Type 0 wher
   pub to-above : 3 * w ≤ to
 
 pub record Spread (o : List ℕ) (r to w : ℕ) (l m : List ℕ) (count : ℕ) : Type 0 where
-  pub row : 0 < r → (b : ℕ) → b < w → cell m (to + b) ≡ rootedRow o (weight o) (tree o r) b
-  pub top : (b : ℕ) → b < w → cell m (2 * w + b) ≡ betterOf (cell l (2 * w + b)) (acrossRow o (weight o) (tree o r) b)
+  pub row : 0 < r → (b : ℕ) → b < w → cell m (to + b) ≡ rootedFrom o r b
+  pub top : (b : ℕ) → b < w → cell m (2 * w + b) ≡ betterOf (cell l (2 * w + b)) (acrossFrom o r b)
   pub same : (k : ℕ) → (0 < r → k < start w r) → (0 < r → to ≤ k → to + w ≤ k) → (2 * w ≤ k → 3 * w ≤ k) → cell m k ≡ cell l k
   pub records : count ≡ recordsIn (tree o r)
 
@@ -83,12 +83,12 @@ pub record Crossable (o : List ℕ) (r to w : ℕ) (l : List ℕ) : Type 0 where
   pub to-above : w ≤ to
   pub to-before : to + w ≤ start w r
   pub more : 0 < next o r
-  pub alone-row : (b : ℕ) → b < w → cell l (start w r + b) ≡ aloneRow o (weight o) r false (tree o (first o r)) b
-  pub rest-row : (b : ℕ) → b < w → cell l (start w r + w + b) ≡ rootedRow o (weight o) (tree o (next o r)) b
+  pub alone-row : (b : ℕ) → b < w → cell l (start w r + b) ≡ aloneFrom o r (first o r) b
+  pub rest-row : (b : ℕ) → b < w → cell l (start w r + w + b) ≡ rootedFrom o (next o r) b
 
 -- the crossing row stands at `to`; the rows up to r's are else as they were
 pub record Crossed (o : List ℕ) (r to w : ℕ) (l m : List ℕ) : Type 0 where
-  pub row : (b : ℕ) → b < w → cell m (to + b) ≡ crossRow o (weight o) r false (tree o (first o r)) (tree o (next o r)) b
+  pub row : (b : ℕ) → b < w → cell m (to + b) ≡ crossFrom o r (first o r) (next o r) b
   pub same : (k : ℕ) → k < start w r + 2 * w → (to ≤ k → to + w ≤ k) → cell m k ≡ cell l k
 
 -- rows for a meeting: the running optimum, `to`, and the two at `own`

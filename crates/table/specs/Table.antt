@@ -2,7 +2,7 @@
 use Prim.Native.Nat.{ℕ, _+_, _*_, _-_, _^_, _<_, _≤_}
 use mathlib.Core.Path.{_≡_}
 use mathlib.Core.Logic.{_⊎_}
-use mathlib.Core.Bool.{true}
+use mathlib.Core.Bool.{true, false}
 use mathlib.Core.List.{List}
 use lib.Dec.{eqb}
 use lib.ListN.{length}
@@ -13,7 +13,7 @@ use Rattle.diversity.specs.Search.{optimum}
 use Rattle.laws.specs.Candidate.{Value, none, some, betterOf}
 use Rattle.laws.specs.Forest.{Forest, tree}
 use Rattle.laws.specs.Numbers.{weight, worth}
-use Rattle.rows.specs.Rows.{Row, betterRow, joinRow, pushed}
+use Rattle.rows.specs.Rows.{Row, betterRow, joinRow, pushed, rootedRow, acrossRow, aloneRow, crossRow}
 use Rattle.rows.proofs.Bounds.{SmallRow, branches, codes}
 use Rattle.table.specs.Cells.{unit, cell}
 use Rattle.table.specs.Memory.{rowAt, Written, Joins, joinOver}
@@ -42,6 +42,23 @@ ByTaxonJoins o r d x to w l = Joins l to (some (taxonWorth o r d)) (price o r) x
 
 abbrev pub ByTaxon : List ℕ → ℕ → ℕ → ℕ → ℕ → ℕ → List ℕ → List ℕ → Type 0
 ByTaxon o r d x to w l m = Written to 0 w (betterRow (joinRow (taxonWorth o r d) (rowAt l x)) (rowAt l to)) l m
+
+-- the rows of the chain that begins at record r: what is pushed through it, something in it rooted, and unrooted
+abbrev pub pushedFrom : List ℕ → ℕ → Row → Row
+pushedFrom o r = pushed o (weight o) (tree o r)
+
+abbrev pub rootedFrom : List ℕ → ℕ → Row
+rootedFrom o r = rootedRow o (weight o) (tree o r)
+
+abbrev pub acrossFrom : List ℕ → ℕ → Row
+acrossFrom o r = acrossRow o (weight o) (tree o r)
+
+-- of a group r, whose members begin at f and the rest of whose chain at n: its clade alone, and its clade with the rest
+abbrev pub aloneFrom : List ℕ → ℕ → ℕ → Row
+aloneFrom o r f = aloneRow o (weight o) r false (tree o f)
+
+abbrev pub crossFrom : List ℕ → ℕ → ℕ → ℕ → Row
+crossFrom o r f n = crossRow o (weight o) r false (tree o f) (tree o n)
 
 -- where the two rows of record r begin, of w columns each
 abbrev pub start : ℕ → ℕ → ℕ
@@ -76,7 +93,7 @@ pub record Ready (o : List ℕ) (r after to w : ℕ) (l : List ℕ) : Type 0 whe
 -- what it leaves: the pushed row at `to`, or at 0 if there is no record; else the rows before r's are as they were
 pub record Done (o : List ℕ) (r after to w : ℕ) (l m : List ℕ) (at : ℕ) : Type 0 where
   pub place : at ≡ pick (eqb r 0) 0 to
-  pub row : (b : ℕ) → b < w → cell m (at + b) ≡ pushed o (weight o) (tree o r) (rowAt l after) b
+  pub row : (b : ℕ) → b < w → cell m (at + b) ≡ pushedFrom o r (rowAt l after) b
   pub same : (k : ℕ) → (0 < r → k < start w r) → (0 < r → to ≤ k → to + w ≤ k) → cell m k ≡ cell l k
 
 -- the better of the rows at `after` and `rest` stands at a cell: where it was put, or where the first one stood if the second

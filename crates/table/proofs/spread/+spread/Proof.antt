@@ -111,7 +111,8 @@ module _ (t : ℕ) where
       let n = d .before .before in
       let e = n .before in
       let h = start e .pre .1 in
-      taxon-spreadable h (pos e) (n .next-of .ensures) (f .first-of .ensures) (d .spread .ensures) (d .spread .kept .1 .1 .1 .1 .0) (a .before .if2 .taken) (a .rest-at .ensures)
+      taxon-spreadable h (pos e) (n .next-of .ensures) (f .first-of .ensures) (d .spread .ensures) (d .spread .kept .1 .1 .1 .1 .0)
+      (a .before .if2 .taken) (a .rest-at .ensures)
 
   add-result : spread-lts.Need-add-result (calls t) (spread-at t) spread.Post
   add-result c =
@@ -120,7 +121,8 @@ module _ (t : ℕ) where
       let n = d .before .before in
       let e = n .before in
       let h = start e .pre .1 in
-      omega (arith, d .spread .ensures .records, records-most _ (h .running .base .kept) (n .next-of .result) (to-next h (pos e) (n .next-of .ensures) refl .most), h .running .base .kept .size-most)
+      omega
+      (arith, d .spread .ensures .records, records-most _ (h .running .base .kept) (n .next-of .result) (to-next h (pos e) (n .next-of .ensures) refl .most), h .running .base .kept .size-most)
 
   same-length : spread-lts.Need-same-length (calls t) (spread-at t) spread.Post
   same-length c =
@@ -136,7 +138,8 @@ module _ (t : ℕ) where
       let n = d .before .before in
       let e = n .before in
       let h = start e .pre .1 in
-      spread-taxon-done h (pos e) (n .next-of .ensures) (f .first-of .ensures) (d .spread .ensures) (d .spread .kept .1 .1 .1 .1 .0) (a .before .if2 .taken) (a .rest-at .ensures) (r .spread-taxon .ensures)
+      spread-taxon-done h (pos e) (n .next-of .ensures) (f .first-of .ensures) (d .spread .ensures) (d .spread .kept .1 .1 .1 .1 .0)
+      (a .before .if2 .taken) (a .rest-at .ensures) (r .spread-taxon .ensures)
 
   branch-of-requires : spread-lts.Need-branch-of-requires (calls t) (spread-at t) spread.Post
   branch-of-requires c κs = record-r (c .before .before .before .before .before .before .before)
@@ -150,7 +153,8 @@ module _ (t : ℕ) where
       let e = n .before in
       let h = start e .pre .1 in (
         omega (arith, left-less _ _ _ (pos e) (h .most) (to-first h (pos e) (n .next-of .ensures) (f .first-of .ensures)), start e .pre .0),
-        spreadable-last h (pos e) (n .next-of .ensures) (f .first-of .ensures) (d .spread .ensures) (d .spread .kept .1 .1 .1 .1 .0) (b .before .if2 .left) (c .before .if3 .taken),
+        spreadable-last h (pos e) (n .next-of .ensures) (f .first-of .ensures) (d .spread .ensures) (d .spread .kept .1 .1 .1 .1 .0)
+            (b .before .if2 .left) (c .before .if3 .taken),
       )
 
   charge-row-requires : spread-lts.Need-charge-row-requires (calls t) (spread-at t) spread.Post
@@ -175,7 +179,8 @@ module _ (t : ℕ) where
       let n = d .before .before in
       let e = n .before in
       let h = start e .pre .1 in
-      omega (arith, m .spread2 .ensures .records, records-most _ (h .running .base .kept) (f .first-of .result) (to-first h (pos e) refl (f .first-of .ensures) .most), h .running .base .kept .size-most)
+      omega
+      (arith, m .spread2 .ensures .records, records-most _ (h .running .base .kept) (f .first-of .result) (to-first h (pos e) refl (f .first-of .ensures) .most), h .running .base .kept .size-most)
 
   same-length-2 : spread-lts.Need-same-length-2 (calls t) (spread-at t) spread.Post
   same-length-2 c =
@@ -194,7 +199,8 @@ module _ (t : ℕ) where
       let n = d .before .before in
       let e = n .before in
       let h = start e .pre .1 in
-      spread-last h (pos e) (n .next-of .ensures) (f .first-of .ensures) (d .spread .ensures) (d .spread .kept .1 .1 .1 .1 .0) (b .before .if2 .left) (m .before .before .if3 .taken)
+      spread-last h (pos e) (n .next-of .ensures) (f .first-of .ensures) (d .spread .ensures) (d .spread .kept .1 .1 .1 .1 .0)
+      (b .before .if2 .left) (m .before .before .if3 .taken)
       (m .spread2 .ensures) (m .spread2 .kept .1 .1 .1 .1 .0) (rw (b .branch-of .ensures) at (r .charge-row .ensures))
 
   spread-requires-3 : spread-lts.Need-spread-requires-3 (calls t) (spread-at t) spread.Post
@@ -206,7 +212,8 @@ module _ (t : ℕ) where
       let e = n .before in
       let h = start e .pre .1 in (
         omega (arith, left-less _ _ _ (pos e) (h .most) (to-first h (pos e) (n .next-of .ensures) (f .first-of .ensures)), start e .pre .0),
-        spreadable-first h (pos e) (n .next-of .ensures) (f .first-of .ensures) (d .spread .ensures) (d .spread .kept .1 .1 .1 .1 .0) (b .before .if2 .left) (c .before .if3 .left),
+        spreadable-first h (pos e) (n .next-of .ensures) (f .first-of .ensures) (d .spread .ensures) (d .spread .kept .1 .1 .1 .1 .0)
+            (b .before .if2 .left) (c .before .if3 .left),
       )
 
   charge-row-requires-2 : spread-lts.Need-charge-row-requires-2 (calls t) (spread-at t) spread.Post
@@ -232,7 +239,8 @@ module _ (t : ℕ) where
       let n = d .before .before in
       let e = n .before in
       let h = start e .pre .1 in
-      crossable h (pos e) (n .next-of .ensures) (f .first-of .ensures) (d .spread .ensures) (d .spread .kept .1 .1 .1 .1 .0) (b .before .if2 .left) (m .before .before .if3 .left)
+      crossable h (pos e) (n .next-of .ensures) (f .first-of .ensures) (d .spread .ensures) (d .spread .kept .1 .1 .1 .1 .0)
+      (b .before .if2 .left) (m .before .before .if3 .left)
       (m .spread3 .ensures) (m .spread3 .kept .1 .1 .1 .1 .0)
       (rw (b .branch-of .ensures) at (g .charge-row2 .ensures)) (g .charge-row2 .kept .0)
 
@@ -247,7 +255,8 @@ module _ (t : ℕ) where
       let n = d .before .before in
       let e = n .before in
       let h = start e .pre .1 in
-      meets h (pos e) (n .next-of .ensures) (f .first-of .ensures) (d .spread .ensures) (d .spread .kept .1 .1 .1 .1 .0) (b .before .if2 .left) (m .before .before .if3 .left)
+      meets h (pos e) (n .next-of .ensures) (f .first-of .ensures) (d .spread .ensures) (d .spread .kept .1 .1 .1 .1 .0) (b .before .if2 .left)
+      (m .before .before .if3 .left)
       (m .spread3 .ensures) (m .spread3 .kept .1 .1 .1 .1 .0)
       (rw (b .branch-of .ensures) at (g .charge-row2 .ensures)) (g .charge-row2 .kept .0) (x .cross .ensures) (x .cross .kept .1 .1 .1 .1 .1 .0)
 
@@ -314,7 +323,8 @@ module _ (t : ℕ) where
       let n = d .before .before in
       let e = n .before in
       let h = start e .pre .1 in
-      spread-more h (pos e) (n .next-of .ensures) (f .first-of .ensures) (d .spread .ensures) (d .spread .kept .1 .1 .1 .1 .0) (b .before .if2 .left) (m .before .before .if3 .left)
+      spread-more h (pos e) (n .next-of .ensures) (f .first-of .ensures) (d .spread .ensures) (d .spread .kept .1 .1 .1 .1 .0)
+      (b .before .if2 .left) (m .before .before .if3 .left)
       (m .spread3 .ensures) (m .spread3 .kept .1 .1 .1 .1 .0)
       (rw (b .branch-of .ensures) at (g .charge-row2 .ensures)) (g .charge-row2 .kept .0) (x .cross .ensures) (x .cross .kept .1 .1 .1 .1 .1 .0)
       (u .meet .ensures)

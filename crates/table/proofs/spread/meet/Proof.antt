@@ -16,7 +16,8 @@ better-rows-requires-3 : tie.Need-better-rows-requires-3
 better-rows-requires-3 c κs =
     let b = c .before .before .before in
     let a = b .before .before .before .before in
-    betters-row (a .before .before .before .pre) (a .better-rows .ensures) (a .better-rows .kept .0) (b .better-rows2 .ensures) (b .better-rows2 .kept .0)
+    betters-row (a .before .before .before .pre) (a .better-rows .ensures) (a .better-rows .kept .0) (b .better-rows2 .ensures)
+    (b .better-rows2 .kept .0)
 
 returns : tie.Need-returns
 returns c =

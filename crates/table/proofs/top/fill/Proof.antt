@@ -52,14 +52,16 @@ spread-requires : tie.Need-spread-requires
 spread-requires c κs =
     let d = c .before .before .before in
     let b = d .before .before .before .before .before .before in
-    spreadable-root (start (first b) .pre) (none-row (first b)) (first b .fill-row .kept .0) (nothing-row b) (b .fill-row2 .kept .0) (top-row d) (d .fill-row3 .kept .0)
+    spreadable-root (start (first b) .pre) (none-row (first b)) (first b .fill-row .kept .0) (nothing-row b) (b .fill-row2 .kept .0) (top-row d)
+    (d .fill-row3 .kept .0)
 
 returns-2 : tie.Need-returns-2
 returns-2 c =
     let p = c .before .before in
     let d = p .before .before .before .before in
     let b = d .before .before .before .before .before .before in
-    filled-unrooted (start (first b) .pre) (none-row (first b)) (first b .fill-row .kept .0) (nothing-row b) (b .fill-row2 .kept .0) (top-row d) (d .fill-row3 .kept .0)
+    filled-unrooted (start (first b) .pre) (none-row (first b)) (first b .fill-row .kept .0) (nothing-row b) (b .fill-row2 .kept .0) (top-row d)
+    (d .fill-row3 .kept .0)
     (d .before .before .before .if1 .left) (p .spread .ensures)
 
 pub fill-spec : {M : Type 1} → statement M
