@@ -72,11 +72,23 @@ module _ (s m t n : ℕ) where
       rw (p, q, le-ltb s t (omega (arith, eqb-true t 0 q)), ne-eqb s t (λ e. eqb-false s 0 p (e ∙ eqb-true t 0 q)))
   better-words false false p q = rw (p, q, second-wins (eqb-false s 0 p) (eqb-false t 0 q))
 
-  pub better-second : wins s m t n ≡ true → seen t n ≡ betterOf (seen s m) (seen t n)
-  better-second e = rw e at (better-words _ _ refl refl)
+  second-better : wins s m t n ≡ true → seen t n ≡ betterOf (seen s m) (seen t n)
+  second-better e = rw e at (better-words _ _ refl refl)
 
-  pub better-first : wins s m t n ≡ false → seen s m ≡ betterOf (seen s m) (seen t n)
-  better-first e = rw e at (better-words _ _ refl refl)
+  first-better : wins s m t n ≡ false → seen s m ≡ betterOf (seen s m) (seen t n)
+  first-better e = rw e at (better-words _ _ refl refl)
+
+  pub greater-set : s ≡ t → m < n → seen t n ≡ betterOf (seen s m) (seen t n)
+  greater-set e h = second-better (rw (le-ltb s t (omega arith), eq-eqb s t e, lt-ltb m n h))
+
+  pub no-greater-set : s ≡ t → n ≤ m → seen s m ≡ betterOf (seen s m) (seen t n)
+  no-greater-set e h = first-better (rw (le-ltb s t (omega arith), eq-eqb s t e, le-ltb m n h))
+
+  pub greater-score : s < t → seen t n ≡ betterOf (seen s m) (seen t n)
+  greater-score h = second-better (rw (lt-ltb s t h))
+
+  pub no-greater-score : s ≢ t → t ≤ s → seen s m ≡ betterOf (seen s m) (seen t n)
+  no-greater-score d h = first-better (rw (le-ltb s t h, ne-eqb s t d))
 
   -- two joined
   pub join-first-none : s ≡ 0 → seen s m ≡ joinOf (seen s m) (seen t n)

@@ -37,7 +37,13 @@ impl Candidate {
     pub fn better(self, other: Candidate) -> Self
         ensures { λ c. ⌜ view c ≡ betterOf (view self) (view other) ⌝ }
     {
-        if (self.score < other.score) | ((self.score == other.score) & (self.set < other.set)) {
+        if self.score == other.score {
+            if self.set < other.set {
+                return other;
+            }
+            return self;
+        }
+        if self.score < other.score {
             return other;
         }
         self
