@@ -53,6 +53,19 @@ module _ {d m b : ℕ} where
   small-cost nothing = omega arith
   small-cost (this p h) = h
 
+-- ---- the table's first rows, as long as the row of no set stays
+pub base-kept : {o : List ℕ} {w : ℕ} {l m : List ℕ} → Base o w l → length m ≡ length l → ((b : ℕ) → b < w → cell m b ≡ cell l b) → Base o w m
+base-kept base long same = record {
+  kept = base .kept;
+  wide = base .wide;
+  narrow = base .narrow;
+  long = omega (arith, base .long);
+  none-row = λ b h. same b h ∙ base .none-row b h;
+}
+
+pub blank-none : {o : List ℕ} {w : ℕ} {l : List ℕ} → Base o w l → (a : ℕ) → Blank l a w
+blank-none {l = l} base a e b h = ap (cell l) (omega arith) ∙ base .none-row b h
+
 pub done-none : (o : List ℕ) (after to w : ℕ) {l : List ℕ} → Base o w l → Done o 0 after to w l l 0
 done-none o after to w base = record {
   place = refl;
@@ -147,13 +160,7 @@ module _ {o : List ℕ} {r after to w : ℕ} {l₀ : List ℕ} (ready : Ready o 
     below₁ k h = h₁ .same k (λ p. omega (arith, gap w r n (to-next .later p))) (λ p q. omega arith)
 
     base₁ : Base o w l₁
-    base₁ = record {
-      kept = kept;
-      wide = ready .base .wide;
-      narrow = ready .base .narrow;
-      long = omega (arith, ready .base .long);
-      none-row = λ b h. below₁ b (omega (arith, ready .to-before pos, ready .to-above)) ∙ ready .base .none-row b h;
-    }
+    base₁ = base-kept (ready .base) k₁ (λ b h. below₁ b (omega (arith, ready .to-before pos, ready .to-above)))
 
     x₁ : (b : ℕ) → b < w → cell l₁ (after + b) ≡ x b
     x₁ b h = below₁ (after + b) (omega (arith, ready .after-before pos))
@@ -169,9 +176,6 @@ module _ {o : List ℕ} {r after to w : ℕ} {l₀ : List ℕ} (ready : Ready o 
     rest-inside : 2 * (rest + w) ≤ length l₁
     rest-inside = ⊎-elim (λ (e : rest ≡ 0). omega (arith, own-inside)) (λ (e : rest ≡ start w r + w). omega (arith, own-inside)) rest-place
 
-    rest-blank : Blank l₁ rest w
-    rest-blank e b h = ap (cell l₁) (omega arith) ∙ base₁ .none-row b h
-
     -- a taxon is joined with what may follow
     module _ (z : f ≡ 0) where
       taxon : isTaxon o r ≡ true
@@ -181,7 +185,7 @@ module _ {o : List ℕ} {r after to w : ℕ} {l₀ : List ℕ} (ready : Ready o 
       is-taxon = record { kept = kept; low = pos; high = ready .most; taxon = taxon }
 
       pub none-row₁ : Blank l₁ 0 w
-      none-row₁ e b h = ap (cell l₁) (omega arith) ∙ base₁ .none-row b h
+      none-row₁ = blank-none base₁ 0
 
       pub joins-taxon : TaxonJoins o r after rest to w l₁
       unfolding diversityOf costOf codeOf
@@ -193,14 +197,14 @@ module _ {o : List ℕ} {r after to w : ℕ} {l₀ : List ℕ} (ready : Ready o 
         second-apart =
             ⊎-elim (λ (e : rest ≡ 0). inr (omega (arith, ready .to-above)))
             (λ (e : rest ≡ start w r + w). inl (omega (arith, ready .to-before pos))) rest-place;
-        second-blank = rest-blank;
+        second-blank = blank-none base₁ rest;
         over = record {
           inside = rest-inside;
           aside =
               ⊎-elim (λ (e : rest ≡ 0). inr (omega (arith, ready .to-above)))
               (λ (e : rest ≡ start w r + w). inl (omega (arith, ready .to-before pos))) rest-place;
         };
-        blank = rest-blank;
+        blank = blank-none base₁ rest;
         fits = λ i h.
             let s = follow-small i (omega arith) in
             let weigh : pick (isTaxon o r) (weight o r) 0 ≡ weight o r = rw taxon in
@@ -237,7 +241,7 @@ module _ {o : List ℕ} {r after to w : ℕ} {l₀ : List ℕ} (ready : Ready o 
             ⊎-elim (λ (e : rest ≡ 0). inr (omega (arith, ready .to-above, ready .to-before pos)))
             (λ (e : rest ≡ start w r + w). inl (omega arith)) rest-place;
       };
-      blank = rest-blank;
+      blank = blank-none base₁ rest;
     }
 
     module _ (z : f ≡ 0 → ⊥) {l₂ : List ℕ} {at : ℕ} (h₂ : Followed (start w r) after rest w l₁ l₂ at) (k₂ : length l₂ ≡ length l₁) where
@@ -273,13 +277,7 @@ module _ {o : List ℕ} {r after to w : ℕ} {l₀ : List ℕ} (ready : Ready o 
       follow₂ b h = h₂ .row b h ∙ follow₁ b h
 
       base₂ : Base o w l₂
-      base₂ = record {
-        kept = kept;
-        wide = ready .base .wide;
-        narrow = ready .base .narrow;
-        long = omega (arith, ready .base .long);
-        none-row = λ b h. below₂ b (omega (arith, ready .to-before pos, ready .to-above)) ∙ ready .base .none-row b h;
-      }
+      base₂ = base-kept (ready .base) (k₂ ∙ k₁) (λ b h. below₂ b (omega (arith, ready .to-before pos, ready .to-above)))
 
       pub ready-first : Ready o f at to w l₂
       ready-first =
@@ -322,7 +320,7 @@ module _ {o : List ℕ} {r after to w : ℕ} {l₀ : List ℕ} (ready : Ready o 
                 ⊎-elim (λ (e : rest ≡ 0). inr (omega (arith, ready .to-above)))
                 (λ (e : rest ≡ start w r + w). inl (omega (arith, ready .to-before pos))) rest-place;
           };
-          blank = λ e b h. rest₃ b h ∙ sym (h₁ .row b h) ∙ rest-blank e b h;
+          blank = λ e b h. rest₃ b h ∙ sym (h₁ .row b h) ∙ blank-none base₁ rest e b h;
           fits = λ i h.
               let s = pushed-small o (weight o) (tree o f) _ _ (w - 1) follow-small i (omega arith) in
               rw (members₃ i h) (omega (arith, small-diversity s, branches-here, ready .room .diversity-fits));

@@ -24,8 +24,8 @@ use Rattle.table.specs.Cells.{cell}
 use Rattle.table.specs.Memory.{rowAt, Chargeable, chargeOver, Charging}
 use Rattle.table.specs.Table.{taxonWorth, start, Base, pushedFrom, rootedFrom, acrossFrom, aloneFrom, crossFrom}
 use Rattle.table.specs.Spread.{Running, recordsIn, Spreadable, Spread, TaxonSpreadable, TaxonSpread, Crossable, Crossed, Meets, Met}
-use Rattle.table.proofs.Pushing.{gap, picked, small-diversity}
-use Rattle.table.proofs.Spreading.{least-kept, join-row-same, shuffle, blank-none}
+use Rattle.table.proofs.Pushing.{gap, picked, small-diversity, base-kept, blank-none}
+use Rattle.table.proofs.Spreading.{least-kept, join-row-same, shuffle}
 use Rattle.table.proofs.TaxonRows.{join-row, join-same}
 
 -- no record
@@ -58,22 +58,14 @@ spread-none {o} {to} {w} {l} s = record {
 pub running-spread : {o : List ℕ} {r to w : ℕ} {l m : List ℕ} {count : ℕ} → Spreadable o r to w l → Spread o r to w l m count → length m ≡ length l
     → Running o w m
 running-spread {o} {r} {to} {w} {l} s h len = record {
-  base = record {
-    kept = base .kept;
-    wide = base .wide;
-    narrow = base .narrow;
-    long = omega (arith, base .long);
-    none-row = λ b k. h .same b (λ p. omega (arith, s .to-before p, s .to-above)) (λ p q. omega (arith, s .to-above)) (λ q. omega arith)
-        ∙ base .none-row b k;
-  };
+  base =
+      base-kept (s .running .base) len
+      (λ b k. h .same b (λ p. omega (arith, s .to-before p, s .to-above)) (λ p q. omega (arith, s .to-above)) (λ q. omega arith));
   nothing-row = λ b k.
       h .same (w + b) (λ p. omega (arith, s .to-before p, s .to-above)) (λ p q. omega (arith, s .to-above)) (λ q. omega arith)
       ∙ s .running .nothing-row b k;
   least = λ b k. rw (h .top b k) (least-kept _ _ (s .running .least b k));
 }
-  where
-    base : Base o w l
-    base = s .running .base
 
 -- ---- spreading at record r
 module _ {o : List ℕ} {r to w : ℕ} {l₀ : List ℕ} (s : Spreadable o r to w l₀) (pos : 0 < r) {n f : ℕ} (en : n ≡ next o r) (ef : f ≡ first o r) where
@@ -136,19 +128,21 @@ module _ {o : List ℕ} {r to w : ℕ} {l₀ : List ℕ} (s : Spreadable o r to 
       taxon-spreadable =
           let weigh : pick (isTaxon o r) (weight o r) 0 ≡ weight o r = rw taxon in
           record {
-            running = running₁;
-            is = record { kept = kept; low = pos; high = s .most; taxon = taxon };
+            pairs = record {
+              running = running₁;
+              is = record { kept = kept; low = pos; high = s .most; taxon = taxon };
+              rest-place = ⊎-elim inl (λ (e : rest ≡ start w r + w). inr (omega (arith, own-above))) (picked (eqb n 0) er);
+              rest-inside =
+                  ⊎-elim (λ (e : rest ≡ 0). omega (arith, own-inside)) (λ (e : rest ≡ start w r + w). omega (arith, own-inside)) (picked (eqb n 0) er);
+              most-diversity = branches o (tree o n);
+              most-code = codes (weight o) (tree o n);
+              small = λ b h. rw (rest-row b h) (rooted-small o (weight o) (tree o n) b);
+              diversity-fits = omega (arith, branches-here, branches-limit o kept r (s .most));
+              code-fits = omega (arith, weigh, codes-here, codes-limit o kept r (s .most));
+            };
             to-above = s .to-above;
             to-inside = omega (arith, s .to-before pos, own-inside);
-            rest-place = ⊎-elim inl (λ (e : rest ≡ start w r + w). inr (omega (arith, s .to-before pos))) (picked (eqb n 0) er);
-            rest-inside =
-                ⊎-elim (λ (e : rest ≡ 0). omega (arith, own-inside)) (λ (e : rest ≡ start w r + w). omega (arith, own-inside))
-                (picked (eqb n 0) er);
-            most-diversity = branches o (tree o n);
-            most-code = codes (weight o) (tree o n);
-            small = λ b h. rw (rest-row b h) (rooted-small o (weight o) (tree o n) b);
-            diversity-fits = omega (arith, branches-here, branches-limit o kept r (s .most));
-            code-fits = omega (arith, weigh, codes-here, codes-limit o kept r (s .most));
+            to-before = ⊎-elim inl (λ (e : rest ≡ start w r + w). inr (omega (arith, s .to-before pos))) (picked (eqb n 0) er);
           }
 
       members-none : (b : ℕ) → acrossFrom o (first o r) b ≡ none
@@ -243,9 +237,6 @@ module _ {o : List ℕ} {r to w : ℕ} {l₀ : List ℕ} (s : Spreadable o r to 
         rest-none : (b : ℕ) → rootedFrom o n b ≡ none
         rest-none b = ap (λ q. rootedFrom o q b) last ∙ rooted-zero o kept b
 
-        later-none : (b : ℕ) → acrossFrom o n b ≡ none
-        later-none b = ap (λ q. acrossFrom o q b) last ∙ across-zero o kept b
-
         cross-none : (b : ℕ) → crossFrom o r f n b ≡ none
         cross-none b =
             rw (en, ef) (rw group at (cross-step o (kept .linked) (weight o) r pos (s .most) b))
@@ -315,13 +306,7 @@ module _ {o : List ℕ} {r to w : ℕ} {l₀ : List ℕ} (s : Spreadable o r to 
 
             pub crossable : Crossable o r to w l₃
             crossable = record {
-              base = record {
-                kept = kept;
-                wide = s .running .base .wide;
-                narrow = s .running .base .narrow;
-                long = omega (arith, s .running .base .long);
-                none-row = λ b h. h₃ .same b (λ q. omega (arith, own-above)) ∙ running₂ .base .none-row b h;
-              };
+              base = base-kept (running₂ .base) k₃ (λ b h. h₃ .same b (λ q. omega (arith, own-above)));
               positive = pos;
               most = s .most;
               group = group;

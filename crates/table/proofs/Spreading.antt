@@ -1,5 +1,5 @@
 -- The steps of spreading: what each call asks, and what it leaves.
-use Prim.Native.Nat.{ℕ, _+_, _*_, _-_, _^_, _<_, _≤_}
+use Prim.Native.Nat.{ℕ, _+_, _*_, _-_, _<_, _≤_}
 use mathlib.Core.Path.{_≡_, refl, sym, ap, ap₂, _∙_}
 use mathlib.Core.Logic.{_⊎_, inl, inr, ⊎-elim}
 use mathlib.Core.Bool.{Bool, true, false}
@@ -11,17 +11,16 @@ use borrow.Author.Tests.{le-ltb, ne-eqb}
 use Rattle.outline.specs.Lists.{pick}
 use Rattle.outline.specs.Outline.{size, first, branch, price}
 use Rattle.laws.specs.Candidate.{Value, nothingWorth, beats, Cand, none, some, betterOf, joinOf, oneAt}
-use Rattle.laws.specs.Numbers.{weight}
 use Rattle.laws.proofs.Order.{value-path, better-none, better-comm, better-assoc}
 use Rattle.laws.proofs.Best.{From, this, from-better}
 use Rattle.laws.proofs.Weights.{weight-limit}
 use Rattle.rows.specs.Rows.{Row, betterRow, joinRow}
 use Rattle.rows.proofs.Bounds.{Small}
-use Rattle.table.specs.Cells.{unit, cell, diversityOf, costOf, codeOf}
+use Rattle.table.specs.Cells.{cell, diversityOf, costOf, codeOf}
 use Rattle.table.specs.Memory.{rowAt, Blank, Reads, Betters, Bettering}
-use Rattle.table.specs.Table.{taxonWorth, Base, TaxonRow, TaxonJoins, ByTaxon, ByTaxonJoins}
-use Rattle.table.specs.Spread.{Running, Bettered, TaxonSpreadable, TaxonSpread, Meets, Met, BySingle, ByPairs}
-use Rattle.table.proofs.Pushing.{gap, small-diversity, small-cost, small-code}
+use Rattle.table.specs.Table.{IsTaxon, taxonWorth, Base, TaxonRow, TaxonJoins, ByTaxon, ByTaxonJoins}
+use Rattle.table.specs.Spread.{Running, Bettered, Pairable, TaxonSpreadable, TaxonSpread, Meets, Met, BySingle, ByPairs}
+use Rattle.table.proofs.Pushing.{gap, small-diversity, small-cost, small-code, base-kept, blank-none}
 use Rattle.table.proofs.TaxonRows.{join-same}
 
 -- ---- candidates
@@ -66,75 +65,77 @@ shuffle t n s c =
 pub front-inside : {o : List ℕ} {w : ℕ} {l : List ℕ} → Base o w l → 2 * (4 * w) ≤ length l
 front-inside {o} {w} base = omega (arith, base .long, gap w 0 (size o + 1) (omega arith))
 
-pub blank-none : {o : List ℕ} {w : ℕ} {l : List ℕ} → Base o w l → (a : ℕ) → Blank l a w
-blank-none {l = l} base a e b h = ap (cell l) (omega arith) ∙ base .none-row b h
+-- ---- the running optimum, and taxon r
+module _ {o : List ℕ} {w : ℕ} {l : List ℕ} (running : Running o w l) where
+  over : Reads l (2 * w) (2 * w) w
+  over = record { inside = omega (arith, front-inside (running .base)); aside = inl (omega arith) }
 
--- ---- taxon r, and the rest of its chain
-module _ {o : List ℕ} {r rest to w : ℕ} {l : List ℕ} (s : TaxonSpreadable o r rest to w l) where
+  not-zero : Blank l (2 * w) w
+  not-zero e = absurd (omega (arith, running .base .wide))
+
+  -- bettering the running optimum leaves the rest as it was
+  running-kept : {x : Row} {m : List ℕ} → Bettered w x l m → length m ≡ length l → Running o w m
+  running-kept h len = record {
+    base = base-kept (running .base) len (λ b k. h .same b (λ q. omega arith));
+    nothing-row = λ b k. h .same (w + b) (λ q. omega arith) ∙ running .nothing-row b k;
+    least = λ b k. rw (h .top b k) (least-kept _ _ (running .least b k));
+  }
+
+  -- the taxon alone
+  module _ {r : ℕ} (is : IsTaxon o r) where
+    abbrev single : Value
+    single = taxonWorth o r 0
+
+    pub joins-single : ByTaxonJoins o r 0 w (2 * w) w l
+    unfolding betterOf diversityOf costOf codeOf
+    joins-single = record {
+      inside = omega (arith, front-inside (running .base));
+      first-inside = omega (arith, front-inside (running .base));
+      first-apart = inr (omega arith);
+      second-inside = omega (arith, front-inside (running .base));
+      second-apart = inr (omega arith);
+      second-blank = blank-none (running .base) 0;
+      over = over;
+      blank = not-zero;
+      fits = λ i h.
+          rw (running .nothing-row i (omega arith), blank-none (running .base) 0 refl i (omega arith))
+          (record {
+            diversity-fits = omega arith;
+            cost-fits = omega (arith, is .kept .ranged r (is .low) (is .high) .price-most);
+            code-fits = omega (arith, weight-limit o (is .kept) r (is .low) (is .high) (is .taxon));
+          });
+    }
+
+    pub bettered-single : {m : List ℕ} → ByTaxon o r 0 w (2 * w) w l m → BySingle o r w l m
+    unfolding joinRow
+    bettered-single v = record {
+      top = λ b h.
+          v .row b (omega arith) h
+          ∙ ap (λ c. betterOf c (cell l (2 * w + b)))
+          (ap (joinOf (oneAt single b)) (running .nothing-row (b - price o r) (omega arith)) ∙ join-nothing single b)
+          ∙ better-comm _ _;
+      same = λ k g. v .same k (λ q. omega (arith, g (omega arith)));
+    }
+
+    pub bettered-dear : (price o r ≡ 0 → ⊥) → BySingle o r w l l
+    bettered-dear n = record {
+      top = λ b h.
+          let e = running .least b h in
+          sym e ∙ ap (betterOf (cell l (2 * w + b))) (sym (nothing-better single b refl n)) ∙ sym (better-assoc _ _ _)
+          ∙ ap (λ c. betterOf c (oneAt single b)) e;
+      same = λ k g. refl;
+    }
+
+-- ---- the taxon with something of the rest of its chain
+module _ {o : List ℕ} {r rest w : ℕ} {l : List ℕ} (s : Pairable o r rest w l) where
   abbrev base : Base o w l
   base = s .running .base
-
-  abbrev single : Value
-  single = taxonWorth o r 0
 
   abbrev taxon : Value
   taxon = taxonWorth o r (branch o r)
 
-  price-most : price o r < unit
-  price-most = omega (arith, s .is .kept .ranged r (s .is .low) (s .is .high) .price-most)
-
-  branch-most : branch o r ≤ 1000000
-  branch-most = s .is .kept .ranged r (s .is .low) (s .is .high) .branch-most
-
-  weight-most : weight o r < 2 ^ 64
-  weight-most = weight-limit o (s .is .kept) r (s .is .low) (s .is .high) (s .is .taxon)
-
-  over : Reads l (2 * w) (2 * w) w
-  over = record { inside = omega (arith, front-inside base); aside = inl (omega arith) }
-
-  not-zero : Blank l (2 * w) w
-  not-zero e = absurd (omega (arith, base .wide))
-
-  -- the taxon alone
-  pub joins-single : ByTaxonJoins o r 0 w (2 * w) w l
-  unfolding betterOf diversityOf costOf codeOf
-  joins-single = record {
-    inside = omega (arith, front-inside base);
-    first-inside = omega (arith, front-inside base);
-    first-apart = inr (omega arith);
-    second-inside = omega (arith, front-inside base);
-    second-apart = inr (omega arith);
-    second-blank = blank-none base 0;
-    over = over;
-    blank = not-zero;
-    fits = λ i h.
-        rw (s .running .nothing-row i (omega arith), blank-none base 0 refl i (omega arith))
-        (record { diversity-fits = omega arith; cost-fits = omega (arith, price-most); code-fits = omega (arith, weight-most) });
-  }
-
-  pub bettered-single : {m : List ℕ} → ByTaxon o r 0 w (2 * w) w l m → BySingle o r w l m
-  unfolding joinRow
-  bettered-single v = record {
-    top = λ b h.
-        v .row b (omega arith) h
-        ∙ ap (λ c. betterOf c (cell l (2 * w + b)))
-        (ap (joinOf (oneAt single b)) (s .running .nothing-row (b - price o r) (omega arith)) ∙ join-nothing single b)
-        ∙ better-comm _ _;
-    same = λ k g. v .same k (λ q. omega (arith, g (omega arith)));
-  }
-
-  pub bettered-dear : (price o r ≡ 0 → ⊥) → BySingle o r w l l
-  bettered-dear n = record {
-    top = λ b h.
-        let e = s .running .least b h in
-        sym e ∙ ap (betterOf (cell l (2 * w + b))) (sym (nothing-better single b refl n)) ∙ sym (better-assoc _ _ _)
-        ∙ ap (λ c. betterOf c (oneAt single b)) e;
-    same = λ k g. refl;
-  }
-
-  -- the taxon with something of the rest
   module _ (n : rest ≡ 0 → ⊥) where
-    beyond : to + w ≤ rest
+    beyond : 3 * w ≤ rest
     beyond = ⊎-elim (λ e. absurd (n e)) (λ h. h) (s .rest-place)
 
     pub joins-pairs : ByTaxonJoins o r (branch o r) rest (2 * w) w l
@@ -142,12 +143,12 @@ module _ {o : List ℕ} {r rest to w : ℕ} {l : List ℕ} (s : TaxonSpreadable 
     joins-pairs = record {
       inside = omega (arith, front-inside base);
       first-inside = s .rest-inside;
-      first-apart = inl (omega (arith, beyond, s .to-above));
+      first-apart = inl (omega (arith, beyond));
       second-inside = omega (arith, front-inside base);
       second-apart = inr (omega arith);
       second-blank = blank-none base 0;
-      over = over;
-      blank = not-zero;
+      over = over (s .running);
+      blank = not-zero (s .running);
       fits = λ i h.
           let small = s .small i (omega arith) in
           rw (blank-none base 0 refl i (omega arith), better-none (cell l (rest + i)))
@@ -168,36 +169,21 @@ module _ {o : List ℕ} {r rest to w : ℕ} {l : List ℕ} (s : TaxonSpreadable 
   unfolding joinRow
   bettered-none e = record {
     top = λ b h.
-        sym
-        (ap (betterOf (cell l (2 * w + b))) (ap (joinOf (oneAt taxon b)) (blank-none base rest e (b - price o r) (omega arith)) ∙ join-none _) ∙ better-none _);
+        let none-left = blank-none base rest e (b - price o r) (omega arith) in
+        sym (ap (betterOf (cell l (2 * w + b))) (ap (joinOf (oneAt taxon b)) none-left ∙ join-none _) ∙ better-none _);
     same = λ k g. refl;
   }
 
-  -- bettering the running optimum leaves the rest as it was
   module _ {x : Row} {m : List ℕ} (h : Bettered w x l m) (len : length m ≡ length l) where
     rest-same : (b : ℕ) → b < w → cell m (rest + b) ≡ cell l (rest + b)
     rest-same b k =
-        h .same (rest + b) (⊎-elim (λ (e : rest ≡ 0). λ q. omega arith) (λ (e : to + w ≤ rest). λ q. omega (arith, s .to-above)) (s .rest-place))
+        h .same (rest + b)
+        (⊎-elim (λ (e : rest ≡ 0). λ q. omega arith) (λ (e : 3 * w ≤ rest). λ q. omega arith) (s .rest-place))
 
-    pub running-kept : Running o w m
-    running-kept = record {
-      base = record {
-        kept = base .kept;
-        wide = base .wide;
-        narrow = base .narrow;
-        long = omega (arith, base .long);
-        none-row = λ b k. h .same b (λ q. omega arith) ∙ base .none-row b k;
-      };
-      nothing-row = λ b k. h .same (w + b) (λ q. omega arith) ∙ s .running .nothing-row b k;
-      least = λ b k. rw (h .top b k) (least-kept _ _ (s .running .least b k));
-    }
-
-    pub spreadable-kept : TaxonSpreadable o r rest to w m
-    spreadable-kept = record {
-      running = running-kept;
+    pub pairable-kept : Pairable o r rest w m
+    pairable-kept = record {
+      running = running-kept (s .running) h len;
       is = s .is;
-      to-above = s .to-above;
-      to-inside = omega (arith, s .to-inside);
       rest-place = s .rest-place;
       rest-inside = omega (arith, s .rest-inside);
       most-diversity = s .most-diversity;
@@ -207,56 +193,66 @@ module _ {o : List ℕ} {r rest to w : ℕ} {l : List ℕ} (s : TaxonSpreadable 
       code-fits = s .code-fits;
     }
 
-  -- the taxon's rooted row
+-- ---- the taxon's rooted row
+module _ {o : List ℕ} {r rest to w : ℕ} {l : List ℕ} (s : TaxonSpreadable o r rest to w l) where
+  abbrev pairs : Pairable o r rest w l
+  pairs = s .pairs
+
   rest-apart : (to + w ≤ rest) ⊎ (rest + w ≤ to)
-  rest-apart = ⊎-elim (λ (e : rest ≡ 0). inr (omega (arith, s .to-above, base .wide))) inl (s .rest-place)
+  rest-apart = ⊎-elim (λ (e : rest ≡ 0). inr (omega (arith, s .to-above, pairs .running .base .wide))) inl (s .to-before)
 
   pub joins-rooted : TaxonJoins o r w rest to w l
   unfolding diversityOf costOf codeOf
   joins-rooted = record {
     inside = s .to-inside;
-    first-inside = omega (arith, front-inside base);
+    first-inside = omega (arith, front-inside (pairs .running .base));
     first-apart = inr (omega (arith, s .to-above));
-    second-inside = s .rest-inside;
+    second-inside = pairs .rest-inside;
     second-apart = rest-apart;
-    second-blank = blank-none base rest;
-    over = record { inside = s .rest-inside; aside = ⊎-elim (λ p. inl (omega arith)) inr rest-apart };
-    blank = blank-none base rest;
+    second-blank = blank-none (pairs .running .base) rest;
+    over = record { inside = pairs .rest-inside; aside = ⊎-elim (λ p. inl (omega arith)) inr rest-apart };
+    blank = blank-none (pairs .running .base) rest;
     fits = λ i h.
-        let zero : From (Small (s .most-diversity) (s .most-code)) i (some nothingWorth) =
+        let zero : From (Small (pairs .most-diversity) (pairs .most-code)) i (some nothingWorth) =
         this {v = nothingWorth} (record { diversity-most = omega arith; code-most = omega arith }) (omega arith) in
-        let small = from-better zero (s .small i (omega arith)) in
-        rw (s .running .nothing-row i (omega arith))
+        let small = from-better zero (pairs .small i (omega arith)) in
+        rw (pairs .running .nothing-row i (omega arith))
         (record {
-          diversity-fits = omega (arith, small-diversity small, s .diversity-fits);
-          cost-fits = omega (arith, small-cost small, base .narrow);
-          code-fits = omega (arith, small-code small, s .code-fits);
+          diversity-fits = omega (arith, small-diversity small, pairs .diversity-fits);
+          cost-fits = omega (arith, small-cost small, pairs .running .base .narrow);
+          code-fits = omega (arith, small-code small, pairs .code-fits);
         });
   }
 
 -- the running optimum bettered twice, then the rooted row
-module _ {o : List ℕ} {r rest to w : ℕ} {l₀ l₁ l₂ : List ℕ} (s : TaxonSpreadable o r rest to w l₀)
-    (h₁ : BySingle o r w l₀ l₁) (k₁ : length l₁ ≡ length l₀)
-    (h₂ : ByPairs o r rest w l₁ l₂) (k₂ : length l₂ ≡ length l₁) where
-  s₁ : TaxonSpreadable o r rest to w l₁
-  s₁ = spreadable-kept s h₁ k₁
+module _ {o : List ℕ} {r rest to w : ℕ} {l₀ l₁ l₂ : List ℕ} (s : TaxonSpreadable o r rest to w l₀) (h₁ : BySingle o r w l₀ l₁)
+    (k₁ : length l₁ ≡ length l₀) (h₂ : ByPairs o r rest w l₁ l₂) (k₂ : length l₂ ≡ length l₁) where
+  pairs₁ : Pairable o r rest w l₁
+  pairs₁ = pairable-kept (s .pairs) h₁ k₁
+
+  pub spreadable-kept : TaxonSpreadable o r rest to w l₂
+  spreadable-kept = record {
+    pairs = pairable-kept pairs₁ h₂ k₂;
+    to-above = s .to-above;
+    to-inside = omega (arith, s .to-inside);
+    to-before = s .to-before;
+  }
 
   rest₂ : (b : ℕ) → b < w → cell l₂ (rest + b) ≡ cell l₀ (rest + b)
-  rest₂ b k = rest-same s₁ h₂ k₂ b k ∙ rest-same s h₁ k₁ b k
+  rest₂ b k = rest-same pairs₁ h₂ k₂ b k ∙ rest-same (s .pairs) h₁ k₁ b k
 
-  pub taxon-spread : {l₃ : List ℕ}
-      → TaxonRow o r w rest to w l₂ l₃
-      → TaxonSpread o r rest to w l₀ l₃
+  pub taxon-spread : {l₃ : List ℕ} → TaxonRow o r w rest to w l₂ l₃ → TaxonSpread o r rest to w l₀ l₃
   taxon-spread v = record {
     row = λ b k.
         v .row b (omega arith) k
         ∙ ap₂ betterOf
         (join-same _ _ _ (betterRow (λ i. some nothingWorth) (rowAt l₀ rest)) b
-        (ap₂ betterOf (running-kept s₁ h₂ k₂ .nothing-row (b - price o r) (omega arith)) (rest₂ (b - price o r) (omega arith))))
+        (ap₂ betterOf (spreadable-kept .pairs .running .nothing-row (b - price o r) (omega arith)) (rest₂ (b - price o r) (omega arith))))
         (rest₂ b k);
     top = λ b k.
         v .same (2 * w + b) (λ q. omega (arith, s .to-above)) ∙ h₂ .top b k
-        ∙ ap₂ betterOf (h₁ .top b k) (join-row-same _ _ (rowAt l₀ rest) b (rest-same s h₁ k₁ (b - price o r) (omega arith)));
+        ∙ ap₂ betterOf (h₁ .top b k)
+        (join-row-same _ _ (rowAt l₀ rest) b (rest-same (s .pairs) h₁ k₁ (b - price o r) (omega arith)));
     same = λ k p q. v .same k (λ g. p (omega arith)) ∙ h₂ .same k q ∙ h₁ .same k q;
   }
 

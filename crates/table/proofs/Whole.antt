@@ -20,7 +20,7 @@ use Rattle.table.specs.Cells.{cell}
 use Rattle.table.specs.Memory.{Written, Betters, Bettering}
 use Rattle.table.specs.Table.{start, Base, Ready, Done, Fillable, Filled, acrossFrom}
 use Rattle.table.specs.Spread.{Spreadable, Spread}
-use Rattle.table.proofs.Pushing.{gap}
+use Rattle.table.proofs.Pushing.{gap, base-kept}
 
 module _ {o : List ℕ} {w : ℕ} {l₀ : List ℕ} (s : Fillable o w l₀) where
   table-inside : 2 * start w (size o + 1) ≤ length l₀
@@ -85,13 +85,7 @@ module _ {o : List ℕ} {w : ℕ} {l₀ : List ℕ} (s : Fillable o w l₀) wher
       pub spreadable-root : Spreadable o 1 (3 * w) w l₃
       spreadable-root = record {
         running = record {
-          base = record {
-            kept = s .kept;
-            wide = s .wide;
-            narrow = s .narrow;
-            long = omega (arith, table-inside);
-            none-row = λ b h. h₃ .same b (λ q. omega arith) ∙ none₂ b h;
-          };
+          base = base-kept base₂ k₃ (λ b h. h₃ .same b (λ q. omega arith));
           nothing-row = λ b h. h₃ .same (w + b) (λ q. omega arith) ∙ nothing₂ b h;
           least = λ b h. rw (h₃ .row b (omega arith) h) (better-same _);
         };

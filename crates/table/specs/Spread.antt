@@ -16,7 +16,7 @@ use Rattle.table.specs.Cells.{cell}
 use Rattle.table.specs.Memory.{rowAt, joinOver}
 use Rattle.table.specs.Table.{IsTaxon, taxonWorth, start, Base, rootedFrom, acrossFrom, aloneFrom, crossFrom}
 
--- the four rows before the records': no set, nothing chosen, the running optimum, which is nothing or better
+-- the rows before the records': that of no set, that of nothing chosen, and the running optimum, which is nothing or better
 pub record Running (o : List ℕ) (w : ℕ) (l : List ℕ) : Type 0 where
   pub base : Base o w l
   pub nothing-row : (b : ℕ) → b < w → cell l (w + b) ≡ some nothingWorth
@@ -26,7 +26,7 @@ pub record Running (o : List ℕ) (w : ℕ) (l : List ℕ) : Type 0 where
 abbrev pub recordsIn : Forest → ℕ
 recordsIn F = sumIn (λ r f. 1) F
 
--- m is l with the running optimum bettered by a row, and else changed only where a test holds
+-- m is l with the running optimum bettered by a row, and else as it was
 pub record Bettered (w : ℕ) (x : Row) (l m : List ℕ) : Type 0 where
   pub top : (b : ℕ) → b < w → cell m (2 * w + b) ≡ betterOf (cell l (2 * w + b)) (x b)
   pub same : (k : ℕ) → (2 * w ≤ k → 3 * w ≤ k) → cell m k ≡ cell l k
@@ -38,32 +38,38 @@ BySingle o r w l m = Bettered w (oneAt (taxonWorth o r 0)) l m
 abbrev pub ByPairs : List ℕ → ℕ → ℕ → ℕ → List ℕ → List ℕ → Type 0
 ByPairs o r rest w l m = Bettered w (joinRow (taxonWorth o r (branch o r)) (rowAt l rest)) l m
 
--- what the chain of record r is spread to: its rooted row at `to`
+-- what spreading the chain of record r to the row at `to` asks
 pub record Spreadable (o : List ℕ) (r to w : ℕ) (l : List ℕ) : Type 0 where
   pub running : Running o w l
   pub most : r ≤ size o
   pub to-before : 0 < r → to + w ≤ start w r
   pub to-above : 3 * w ≤ to
 
+-- what it leaves: the rooted row of the chain at `to`, and the running optimum bettered by what the chain has unrooted
 pub record Spread (o : List ℕ) (r to w : ℕ) (l m : List ℕ) (count : ℕ) : Type 0 where
   pub row : 0 < r → (b : ℕ) → b < w → cell m (to + b) ≡ rootedFrom o r b
   pub top : (b : ℕ) → b < w → cell m (2 * w + b) ≡ betterOf (cell l (2 * w + b)) (acrossFrom o r b)
   pub same : (k : ℕ) → (0 < r → k < start w r) → (0 < r → to ≤ k → to + w ≤ k) → (2 * w ≤ k → 3 * w ≤ k) → cell m k ≡ cell l k
   pub records : count ≡ recordsIn (tree o r)
 
--- taxon r, and the row of the rest of its chain at `rest`
-pub record TaxonSpreadable (o : List ℕ) (r rest to w : ℕ) (l : List ℕ) : Type 0 where
+-- taxon r, and the row of the rest of its chain at `rest`, which leaves room for the taxon
+pub record Pairable (o : List ℕ) (r rest w : ℕ) (l : List ℕ) : Type 0 where
   pub running : Running o w l
   pub is : IsTaxon o r
-  pub to-above : 3 * w ≤ to
-  pub to-inside : 2 * (to + w) ≤ length l
-  pub rest-place : (rest ≡ 0) ⊎ (to + w ≤ rest)
+  pub rest-place : (rest ≡ 0) ⊎ (3 * w ≤ rest)
   pub rest-inside : 2 * (rest + w) ≤ length l
   pub most-diversity : ℕ
   pub most-code : ℕ
   pub small : (b : ℕ) → b < w → From (Small most-diversity most-code) b (cell l (rest + b))
   pub diversity-fits : branch o r + most-diversity < 2 ^ 40
   pub code-fits : weight o r + most-code < 2 ^ 64
+
+-- what spreading taxon r to the row at `to` asks
+pub record TaxonSpreadable (o : List ℕ) (r rest to w : ℕ) (l : List ℕ) : Type 0 where
+  pub pairs : Pairable o r rest w l
+  pub to-above : 3 * w ≤ to
+  pub to-inside : 2 * (to + w) ≤ length l
+  pub to-before : (rest ≡ 0) ⊎ (to + w ≤ rest)
 
 -- the taxon alone, which has no diversity, and the taxon with something of the rest have bettered the running optimum
 pub record TaxonSpread (o : List ℕ) (r rest to w : ℕ) (l m : List ℕ) : Type 0 where
@@ -98,6 +104,7 @@ pub record Meets (l : List ℕ) (own to w : ℕ) : Type 0 where
   pub to-before : to + w ≤ own
   pub inside : 2 * (own + 2 * w) ≤ length l
 
+-- the running optimum and the row at `to` bettered
 pub record Met (own to w : ℕ) (l m : List ℕ) : Type 0 where
   pub top : (b : ℕ) → b < w → cell m (2 * w + b) ≡ betterOf (cell l (2 * w + b)) (cell l (to + b))
   pub row : (b : ℕ) → b < w → cell m (to + b) ≡ betterOf (betterOf (cell l (own + b)) (cell l (own + w + b))) (cell l (to + b))

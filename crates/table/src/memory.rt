@@ -81,8 +81,8 @@ pub fn charge_row(work: &mut [u64], to: usize, x: usize, branch: u64, y: usize, 
     }
 }
 
-// Makes each column from the price on the better of two: the candidate, joined with the better of x and y for the rest of
-// the money, and z.
+// Makes each column from the price on the better of two: the candidate, joined with the better of x and y for what the price
+// leaves, and z.
 pub fn join_row(
     work: &mut [u64],
     to: usize,

@@ -2,7 +2,8 @@
 ghost use mathlib.Core.Path.{_≡_};
 ghost use Rattle.outline.specs.Lists.{pick};
 ghost use lib.Dec.{eqb};
-ghost use Rattle.table.specs.Spread.{Spreadable, Spread, BySingle, ByPairs, TaxonSpreadable, TaxonSpread, Crossable, Crossed, Meets, Met};
+ghost use Rattle.table.specs.Table.{IsTaxon};
+ghost use Rattle.table.specs.Spread.{Running, Pairable, Spreadable, Spread, BySingle, ByPairs, TaxonSpreadable, TaxonSpread, Crossable, Crossed, Meets, Met};
 use super::memory::better_rows;
 use super::memory::charge_row;
 use super::push::push;
@@ -14,8 +15,8 @@ use outline::fields::next_of;
 use outline::fields::price_of;
 
 // Betters the running optimum by taxon r alone. It has no diversity, so that it is better than nothing only if it is free.
-fn better_by_single(o: &[u8], r: usize, rest: usize, to: usize, width: usize, work: &mut [u64])
-    requires { ⌜ TaxonSpreadable (now o) r rest to width (now work) ⌝ }
+fn better_by_single(o: &[u8], r: usize, width: usize, work: &mut [u64])
+    requires { ⌜ Running (now o) width (now work) × IsTaxon (now o) r ⌝ }
     ensures { λ _. ⌜ BySingle (now (o .entry)) r width (now (work .entry)) (now (work .exit)) ⌝ }
 {
     if price_of(o, r) == 0 {
@@ -24,8 +25,8 @@ fn better_by_single(o: &[u8], r: usize, rest: usize, to: usize, width: usize, wo
 }
 
 // Betters the running optimum by taxon r with something in the rest of its chain.
-fn better_by_pairs(o: &[u8], r: usize, rest: usize, to: usize, width: usize, work: &mut [u64])
-    requires { ⌜ TaxonSpreadable (now o) r rest to width (now work) ⌝ }
+fn better_by_pairs(o: &[u8], r: usize, rest: usize, width: usize, work: &mut [u64])
+    requires { ⌜ Pairable (now o) r rest width (now work) ⌝ }
     ensures { λ _. ⌜ ByPairs (now (o .entry)) r rest width (now (work .entry)) (now (work .exit)) ⌝ }
 {
     if rest != 0 {
@@ -38,8 +39,8 @@ fn spread_taxon(o: &[u8], r: usize, rest: usize, to: usize, width: usize, work: 
     requires { ⌜ TaxonSpreadable (now o) r rest to width (now work) ⌝ }
     ensures { λ _. ⌜ TaxonSpread (now (o .entry)) r rest to width (now (work .entry)) (now (work .exit)) ⌝ }
 {
-    better_by_single(o, r, rest, to, width, work);
-    better_by_pairs(o, r, rest, to, width, work);
+    better_by_single(o, r, width, work);
+    better_by_pairs(o, r, rest, width, work);
     taxon_row(o, r, width, rest, to, width, work);
 }
 

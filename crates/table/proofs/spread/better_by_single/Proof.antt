@@ -9,17 +9,19 @@ use Rattle.table.proofs.spread.better_by_single.Tie as tie
 better-by-taxon-requires : tie.Need-better-by-taxon-requires
 better-by-taxon-requires c κs =
     let pre = c .before .before .before .before .before .pre in
-    (pre .is, (omega arith, joins-single pre))
+    (pre .1, (omega arith, joins-single (pre .0) (pre .1)))
 
 returns : tie.Need-returns
 returns c =
     let b = c .before .before in
-    bettered-single (b .before .before .before .before .before .before .pre) (b .better-by-taxon .ensures)
+    let pre = b .before .before .before .before .before .before .pre in
+    bettered-single (pre .0) (pre .1) (b .better-by-taxon .ensures)
 
 returns-2 : tie.Need-returns-2
 returns-2 c =
     let p = c .before in
-    bettered-dear (p .before .before .before .pre) (λ z. c .if1 .left (p .price-of .ensures ∙ z))
+    let pre = p .before .before .before .pre in
+    bettered-dear (pre .0) (pre .1) (λ z. c .if1 .left (p .price-of .ensures ∙ z))
 
 pub better-by-single-spec : {M : Type 1} → statement M
 better-by-single-spec =
