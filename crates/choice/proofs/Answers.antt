@@ -8,13 +8,14 @@ use native.Mathlib.Omega.{arith}
 use lib.Dec.{eqb}
 use lib.ListN.{length, take, drop, length-replicate}
 use lib.Seq.{length-take-le}
-use borrow.Author.Tests.{ltb-false, eqb-true}
+use borrow.Author.Tests.{ltb-false, eqb-true, eqb-false}
+use Rattle.outline.specs.Lists.{pick}
 use Rattle.outline.specs.Refusals.{refusal, sizeRows, recordRows}
 use Rattle.outline.specs.declared.verdict.Refusal.{Refusal}
 use Rattle.outline.proofs.Bools.{both-false}
 use Rattle.outline.proofs.Refusals.{both-pass, row-fails, refusal-not-zero}
 use Rattle.outline.proofs.Kept.{rows-kept}
-use Rattle.choice.specs.Answer.{Call, Answered, mostCount, workTaken, tooShort, judged, isSelected, selected, reply}
+use Rattle.choice.specs.Answer.{Call, Answered, refused, mostCount, workTaken, tooShort, judged, isSelected, selected, reply}
 use Rattle.choice.specs.Answer.{curveOf, over, marksAfter, curveAfter, workAfter}
 use Rattle.choice.specs.Inner.{Solvable, Solved}
 use Rattle.choice.specs.declared.answer.Answer.{Answer}
@@ -65,31 +66,44 @@ module _ (c : Call) where
         work-long = ltb-false _ _ (rest .1);
       }
 
+  -- where the number told is 0, it is a selection
+  pub told-selection : reply c .number ≡ 0 → isSelected c ≡ true
+  unfolding reply
+  told-selection z = go (isSelected c) refl z
+    where
+      go : (b : Bool) → isSelected c ≡ b → (pick b (selected c) (refused (judged c))) .number ≡ 0 → b ≡ true
+      go true e z = refl
+      go false e z = absurd (eqb-false _ _ e z)
+
+  pub selection-told : isSelected c ≡ true → reply c ≡ selected c
+  unfolding reply
+  selection-told e = rw e
+
   -- the call with the first n numbers of work
-  abbrev pub lending : ℕ → Call
-  lending n = record { outline = c .outline; count = c .count; way = c .way; marks = c .marks; curve = c .curve; work = take n (c .work) }
+  abbrev pub withWork : ℕ → Call
+  withWork n = record { outline = c .outline; count = c .count; way = c .way; marks = c .marks; curve = c .curve; work = take n (c .work) }
 
   module _ (e : isSelected c ≡ true) (n : ℕ) (taken : n ≡ workTaken (c .outline) (c .count)) where
-    pub lent-inside : n ≤ length (c .work)
-    lent-inside = omega (arith, selected-solvable e .work-long)
+    pub part-inside : n ≤ length (c .work)
+    part-inside = omega (arith, selected-solvable e .work-long)
 
-    pub lent-long : length (take n (c .work)) ≡ n
-    lent-long = length-take-le n (c .work) lent-inside
+    pub part-long : length (take n (c .work)) ≡ n
+    part-long = length-take-le n (c .work) part-inside
 
-    pub lent-solvable : Solvable (lending n)
-    lent-solvable =
+    pub part-solvable : Solvable (withWork n)
+    part-solvable =
         let s = selected-solvable e in
-        record { kept = s .kept; low = s .low; marks-long = s .marks-long; curve-long = s .curve-long; work-long = omega (arith, lent-long) }
+        record { kept = s .kept; low = s .low; marks-long = s .marks-long; curve-long = s .curve-long; work-long = omega (arith, part-long) }
 
     -- a selection
-    pub solved-answered : {answer : Answer} {marks curve work : List ℕ} → Solved (lending n) answer marks curve work
+    pub solved-answered : {answer : Answer} {marks curve work : List ℕ} → Solved (withWork n) answer marks curve work
         → Answered c answer marks curve (work ++ drop n (c .work))
     unfolding reply marksAfter curveAfter workAfter selected curveOf over
     solved-answered s = record {
       told-reply = rw e (s .told-selected);
       marks-written = rw e (s .marks-written);
       curve-written = rw e (s .curve-written);
-      work-cleared = rw (e, s .work-cleared, lent-long, ← taken, length-replicate);
+      work-cleared = rw (e, s .work-cleared, part-long, ← taken, length-replicate);
     }
 
   -- a refusal

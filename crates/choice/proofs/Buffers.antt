@@ -26,6 +26,11 @@ over-long : (text buffer : List ℕ) → length text ≤ length buffer → lengt
 unfolding over
 over-long text buffer h = simp (length-append, length-drop) (omega arith)
 
+-- what is written over a buffer, read again
+pub over-at : (text buffer : List ℕ) (i : ℕ) → i < length text → getD (over text buffer) i 0 ≡ getD text i 0
+unfolding over
+over-at text buffer i h = List·getD-append text (drop (length text) buffer) 0 i h
+
 -- a loop's invariant: the first i numbers of the text stand in the buffer, and the rest is as it was
 pub record Rising (text buffer now : List ℕ) (i : ℕ) : Type 0 where
   pub most : i ≤ length text
@@ -71,15 +76,13 @@ module _ {text buffer now : List ℕ} {i : ℕ} (h : Falling text buffer now i) 
   inside : i - 1 < length buffer
   inside = omega (arith, h .most, h .fits)
 
-  same : getD (over text buffer) (i - 1) 0 ≡ getD text (i - 1) 0
-  unfolding over
-  same = List·getD-append text (drop (length text) buffer) 0 (i - 1) (omega (arith, h .most))
-
   pub falling-goes : {v : ℕ} → v ≡ getD text (i - 1) 0 → Falling text buffer (set now (i - 1) v) (i - 1)
   falling-goes e = record {
     most = omega (arith, h .most);
     fits = h .fits;
-    whole = rw (before, e, ← same) (one-down buffer (over text buffer) (i - 1) inside (rw (over-long text buffer (h .fits)) inside));
+    whole =
+        rw (before, e, ← over-at text buffer (i - 1) (omega (arith, h .most)))
+        (one-down buffer (over text buffer) (i - 1) inside (rw (over-long text buffer (h .fits)) inside));
   }
 
 pub falling-ends : {text buffer now : List ℕ} → Falling text buffer now 0 → now ≡ over text buffer

@@ -14,7 +14,8 @@ use Rattle.outline.specs.Refusals.{badField, badLink, taxa, isDuplicate, Told, 
 use Rattle.outline.proofs.Bools.{both-true}
 use Rattle.outline.proofs.Walk.{Lowest, none, here, lowest-from}
 use Rattle.choice.specs.Answer.{Call, mostCount, curveTaken, tooShort, judged}
-use Rattle.choice.specs.Demands.{LowestAt, Row, way, ragged, thick, count, field, link, crowd, twin, space, Refuses}
+use Rattle.choice.specs.Demands.{LowestAt, Row, unknown-way, partial-record, too-many-records, count-too-large, Refuses}
+use Rattle.choice.specs.Demands.{field-out-of-range, bad-link, too-many-taxa, duplicate-plate, buffer-too-short}
 
 -- ---- the lowest record at which a condition holds
 module _ (o : List ℕ) (holds : ℕ → Bool) where
@@ -87,15 +88,16 @@ module _ (c : Call) where
 
   row-condition : {n p : ℕ} → Row c n p → getD conditions (n - 1) false ≡ true
   unfolding conditions tooShort
-  row-condition (way d e) = rw (ne-eqb (c .way) 0 d, ne-eqb (c .way) 1 e)
-  row-condition (ragged h) = ⊎-elim (λ e. or-left _ _ (eq-eqb _ _ e)) (λ d. or-right (eqb (length (c .outline)) 0) _ (ap not (ne-eqb _ _ d))) h
-  row-condition (thick h) = lt-ltb _ _ h
-  row-condition (count h) = lt-ltb _ _ h
-  row-condition (field h) = somewhere _ h
-  row-condition (link h) = somewhere _ h
-  row-condition (crowd h) = lt-ltb _ _ h
-  row-condition (twin h) = somewhere _ h
-  row-condition (space h) =
+  row-condition (unknown-way d e) = rw (ne-eqb (c .way) 0 d, ne-eqb (c .way) 1 e)
+  row-condition (partial-record h) =
+      ⊎-elim (λ e. or-left _ _ (eq-eqb _ _ e)) (λ d. or-right (eqb (length (c .outline)) 0) _ (ap not (ne-eqb _ _ d))) h
+  row-condition (too-many-records h) = lt-ltb _ _ h
+  row-condition (count-too-large h) = lt-ltb _ _ h
+  row-condition (field-out-of-range h) = somewhere _ h
+  row-condition (bad-link h) = somewhere _ h
+  row-condition (too-many-taxa h) = lt-ltb _ _ h
+  row-condition (duplicate-plate h) = somewhere _ h
+  row-condition (buffer-too-short h) =
       let marks = ltb (length (c .marks)) (size (c .outline)) in
       let curve = ltb (length (c .curve)) (curveTaken (c .count)) in
       ⊎-elim (λ m. or-left _ _ (lt-ltb _ _ m))
@@ -103,26 +105,26 @@ module _ (c : Call) where
 
   row-place : {n p : ℕ} → Row c n p → p ≡ getD places (n - 1) 0
   unfolding places
-  row-place (way d e) = refl
-  row-place (ragged h) = refl
-  row-place (thick h) = refl
-  row-place (count h) = refl
-  row-place (field h) = at-lowest _ _ h
-  row-place (link h) = at-lowest _ _ h
-  row-place (crowd h) = refl
-  row-place (twin h) = at-lowest _ _ h
-  row-place (space h) = refl
+  row-place (unknown-way d e) = refl
+  row-place (partial-record h) = refl
+  row-place (too-many-records h) = refl
+  row-place (count-too-large h) = refl
+  row-place (field-out-of-range h) = at-lowest _ _ h
+  row-place (bad-link h) = at-lowest _ _ h
+  row-place (too-many-taxa h) = refl
+  row-place (duplicate-plate h) = at-lowest _ _ h
+  row-place (buffer-too-short h) = refl
 
-  row-range : {n p : ℕ} → Row c n p → (1 ≤ n) × (n ≤ 9)
-  row-range (way d e) = omega arith
-  row-range (ragged h) = omega arith
-  row-range (thick h) = omega arith
-  row-range (count h) = omega arith
-  row-range (field h) = omega arith
-  row-range (link h) = omega arith
-  row-range (crowd h) = omega arith
-  row-range (twin h) = omega arith
-  row-range (space h) = omega arith
+  pub row-range : {n p : ℕ} → Row c n p → (1 ≤ n) × (n ≤ 9)
+  row-range (unknown-way d e) = omega arith
+  row-range (partial-record h) = omega arith
+  row-range (too-many-records h) = omega arith
+  row-range (count-too-large h) = omega arith
+  row-range (field-out-of-range h) = omega arith
+  row-range (bad-link h) = omega arith
+  row-range (too-many-taxa h) = omega arith
+  row-range (duplicate-plate h) = omega arith
+  row-range (buffer-too-short h) = omega arith
 
   -- ---- what the rows from lo up to hi give
   data Given (lo hi : ℕ) : Told → Type 0 where
@@ -159,15 +161,15 @@ module _ (c : Call) where
 
   -- rows 1, 2 and 9, from their tests
   way-row : (not (eqb (c .way) 0) && not (eqb (c .way) 1)) ≡ true → Row c 1 0
-  way-row e = let d = both-true _ _ e in way (eqb-false _ _ (not-true _ (d .0))) (eqb-false _ _ (not-true _ (d .1)))
+  way-row e = let d = both-true _ _ e in unknown-way (eqb-false _ _ (not-true _ (d .0))) (eqb-false _ _ (not-true _ (d .1)))
 
-  ragged-row : (eqb (length (c .outline)) 0 || not (eqb (length (c .outline) % 16) 0)) ≡ true → Row c 2 0
-  ragged-row e = ragged (⊎-elim (λ z. inl (eqb-true _ _ z)) (λ z. inr (eqb-false _ _ (not-true _ z))) (or-cases _ _ e))
+  partial-row : (eqb (length (c .outline)) 0 || not (eqb (length (c .outline) % 16) 0)) ≡ true → Row c 2 0
+  partial-row e = partial-record (⊎-elim (λ z. inl (eqb-true _ _ z)) (λ z. inr (eqb-false _ _ (not-true _ z))) (or-cases _ _ e))
 
-  space-row : tooShort c ≡ true → Row c 9 0
+  short-row : tooShort c ≡ true → Row c 9 0
   unfolding tooShort
-  space-row e =
-      space (⊎-elim (λ m. inl (ltb-true _ _ m))
+  short-row e =
+      buffer-too-short (⊎-elim (λ m. inl (ltb-true _ _ m))
       (λ rest. inr (⊎-elim (λ k. inl (ltb-true _ _ k)) (λ w. inr (ltb-true _ _ w)) (or-cases _ _ rest))) (or-cases _ _ e))
 
   -- all rows
@@ -175,19 +177,19 @@ module _ (c : Call) where
   unfolding sizeRows conditions
   sizes-given =
       given-either {mid = 3} (omega arith) (omega arith)
-      (row-given 2 _ ragged-row (λ p r. row-condition r))
-      (row-given 3 _ (λ e. thick (ltb-true _ _ e)) (λ p r. row-condition r))
+      (row-given 2 _ partial-row (λ p r. row-condition r))
+      (row-given 3 _ (λ e. too-many-records (ltb-true _ _ e)) (λ p r. row-condition r))
 
   records-given : Given 5 9 (recordRows (c .outline))
   unfolding recordRows conditions
   records-given =
       given-either {mid = 6} (omega arith) (omega arith)
-      (row-at-given 5 (badField (c .outline)) (λ r. field) (λ p r. row-condition r))
+      (row-at-given 5 (badField (c .outline)) (λ r. field-out-of-range) (λ p r. row-condition r))
       (given-either {mid = 7} (omega arith) (omega arith)
-      (row-at-given 6 (badLink (c .outline)) (λ r. link) (λ p r. row-condition r))
+      (row-at-given 6 (badLink (c .outline)) (λ r. bad-link) (λ p r. row-condition r))
       (given-either {mid = 8} (omega arith) (omega arith)
-      (row-given 7 _ (λ e. crowd (ltb-true _ _ e)) (λ p r. row-condition r))
-      (row-at-given 8 (isDuplicate (c .outline)) (λ r. twin) (λ p r. row-condition r))))
+      (row-given 7 _ (λ e. too-many-taxa (ltb-true _ _ e)) (λ p r. row-condition r))
+      (row-at-given 8 (isDuplicate (c .outline)) (λ r. duplicate-plate) (λ p r. row-condition r))))
 
   judged-given : Given 1 10 (judged c)
   unfolding judged conditions
@@ -196,9 +198,9 @@ module _ (c : Call) where
       (row-given 1 _ way-row (λ p r. row-condition r))
       (given-either {mid = 4} (omega arith) (omega arith) sizes-given
       (given-either {mid = 5} (omega arith) (omega arith)
-      (row-given 4 _ (λ e. count (ltb-true _ _ e)) (λ p r. row-condition r))
+      (row-given 4 _ (λ e. count-too-large (ltb-true _ _ e)) (λ p r. row-condition r))
       (given-either {mid = 9} (omega arith) (omega arith) records-given
-      (row-given 9 _ space-row (λ p r. row-condition r)))))
+      (row-given 9 _ short-row (λ p r. row-condition r)))))
 
   -- the row and the place to turn a call back with
   pub refuses-one : {n p m q : ℕ} → Refuses c n p → Refuses c m q → (m ≡ n) × (q ≡ p)

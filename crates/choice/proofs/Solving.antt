@@ -6,7 +6,7 @@ use mathlib.Core.List.{List}
 use native.Mathlib.Omega.{arith}
 use native.Mathlib.Nat.{mul-le-mul-right}
 use lib.Dec.{eqb}
-use lib.ListN.{length, getD, drop, replicate, List·getD-append}
+use lib.ListN.{length, replicate}
 use Rattle.outline.specs.Lists.{pick, one, from}
 use Rattle.outline.specs.Outline.{size, records, branch}
 use Rattle.outline.specs.Refusals.{mostRecords}
@@ -22,9 +22,10 @@ use Rattle.laws.proofs.Numbers.{decode-code}
 use Rattle.table.specs.Cells.{unit, seen, view, diversityOf, costOf, codeOf, cell}
 use Rattle.table.specs.Table.{Filled}
 use Rattle.table.specs.declared.candidate.Candidate.{Candidate}
-use Rattle.choice.specs.Answer.{Call, Reply, bestSet, selected, columns, curveOf, over}
-use Rattle.choice.specs.Inner.{topDiversity, topCost, Drawable, drawnDiversity, Solvable, Solved}
+use Rattle.choice.specs.Answer.{Call, Reply, bestSet, selected, columns, curveOf, diversityAt, costAt, over}
+use Rattle.choice.specs.Inner.{topDiversity, topCost, Drawable, Solvable, Solved}
 use Rattle.choice.specs.declared.answer.Answer.{Answer}
+use Rattle.choice.proofs.Buffers.{over-at}
 use Rattle.choice.proofs.Columns.{columns-long, column-diversity, column-cost}
 
 -- ---- how large the numbers are
@@ -67,11 +68,7 @@ columns-ext d c e f k (suc n) h =
     let same = h k (omega arith) in
     rw (same .0, same .1, columns-ext d c e f (k + 1) n (λ b l. h b (omega arith)))
 
--- ---- what is written over a buffer, read again
-over-at : (text buffer : List ℕ) (i : ℕ) → i < length text → getD (over text buffer) i 0 ≡ getD text i 0
-unfolding over
-over-at text buffer i h = List·getD-append text (drop (length text) buffer) 0 i h
-
+-- ---- the set written over a buffer, counted
 taxa-over : (o s buffer : List ℕ) → IsSet o s → chosenTaxa o (over s buffer) ≡ chosenTaxa o s
 unfolding chosenTaxa records chosen
 taxa-over o s buffer x = total-ext _ _ 1 (size o) (λ r l u. ap (λ (k : ℕ). one (eqb k 1)) (over-at s buffer (r - 1) (omega (arith, x .whole))))
@@ -83,21 +80,21 @@ module _ (c : Call) where
   curve-long = columns-long _ _ 0 (c .count + 1)
 
   module _ (buffer : List ℕ) (b : ℕ) (h : b ≤ c .count) where
-    pub curve-diversity : drawnDiversity (over (curveOf c) buffer) b ≡ bestDiversity (c .outline) (c .way) b
+    pub curve-diversity : diversityAt (over (curveOf c) buffer) b ≡ bestDiversity (c .outline) (c .way) b
     unfolding curveOf
     curve-diversity = over-at (curveOf c) buffer (2 * b) (omega (arith, curve-long)) ∙ column-diversity _ _ (c .count + 1) b (omega arith)
 
-    pub curve-cost : getD (over (curveOf c) buffer) (2 * b + 1) 0 ≡ leastCost (c .outline) (c .way) b
+    pub curve-cost : costAt (over (curveOf c) buffer) b ≡ leastCost (c .outline) (c .way) b
     unfolding curveOf
     curve-cost = over-at (curveOf c) buffer (2 * b + 1) (omega (arith, curve-long)) ∙ column-cost _ _ (c .count + 1) b (omega arith)
 
   -- and read leftwards
   curve-spare : (buffer : List ℕ)
-      → columnsAlike (drawnDiversity (over (curveOf c) buffer)) (drawnDiversity (over (curveOf c) buffer) (c .count)) (c .count)
+      → columnsAlike (diversityAt (over (curveOf c) buffer)) (diversityAt (over (curveOf c) buffer) (c .count)) (c .count)
       ≡ spare (c .outline) (c .way) (c .count)
   unfolding spare
   curve-spare buffer =
-      ap (λ d. columnsAlike (drawnDiversity (over (curveOf c) buffer)) d (c .count)) (curve-diversity buffer (c .count) (omega arith))
+      ap (λ d. columnsAlike (diversityAt (over (curveOf c) buffer)) d (c .count)) (curve-diversity buffer (c .count) (omega arith))
       ∙ alike-ext _ _ _ (c .count) (λ b l. curve-diversity buffer b (omega arith))
 
 -- ---- the set of a candidate
@@ -153,18 +150,18 @@ module _ (c : Call) (s : Solvable c) (table : List ℕ) (filled : Filled (c .out
       → curve ≡ over (columns (topDiversity table (c .count + 1)) (topCost table (c .count + 1)) (from 0 (c .count + 1))) (c .curve)
       → work ≡ replicate (length (c .work)) 0
       → taxa ≡ chosenTaxa (c .outline) marks
-      → left ≡ columnsAlike (drawnDiversity curve) (drawnDiversity curve (c .count)) (c .count)
-      → Solved c (Answer.Selected (getD curve (2 * c .count) 0) (getD curve (2 * c .count + 1) 0) taxa left) marks curve work
+      → left ≡ columnsAlike (diversityAt curve) (diversityAt curve (c .count)) (c .count)
+      → Solved c (Answer.Selected (diversityAt curve (c .count)) (costAt curve (c .count)) taxa left) marks curve work
   unfolding selected bestDiversity leastCost
   solved best {marks} {curve} is-best m k w t l =
       let marked : marks ≡ over (bestSet c) (c .marks) = m ∙ ap (λ x. over x (c .marks)) (best-marks best is-best) in
       let drawn : curve ≡ over (curveOf c) (c .curve) = k ∙ ap (λ x. over x (c .curve)) top-curve in
       record {
         told-selected =
-            reply-path (ap (λ x. drawnDiversity x (c .count)) drawn ∙ curve-diversity c (c .curve) (c .count) (omega arith))
-            (ap (λ x. getD x (2 * c .count + 1) 0) drawn ∙ curve-cost c (c .curve) (c .count) (omega arith))
+            reply-path (ap (λ x. diversityAt x (c .count)) drawn ∙ curve-diversity c (c .curve) (c .count) (omega arith))
+            (ap (λ x. costAt x (c .count)) drawn ∙ curve-cost c (c .curve) (c .count) (omega arith))
             (t ∙ ap (chosenTaxa (c .outline)) marked ∙ taxa-over (c .outline) (bestSet c) (c .marks) (optimum-set _ _ _))
-            (l ∙ ap (λ x. columnsAlike (drawnDiversity x) (drawnDiversity x (c .count)) (c .count)) drawn ∙ curve-spare c (c .curve));
+            (l ∙ ap (λ x. columnsAlike (diversityAt x) (diversityAt x (c .count)) (c .count)) drawn ∙ curve-spare c (c .curve));
         marks-written = marked;
         curve-written = drawn;
         work-cleared = w;

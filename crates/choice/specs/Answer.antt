@@ -3,7 +3,7 @@ use Prim.Native.Nat.{ℕ, _+_, _*_}
 use mathlib.Core.Path.{_≡_}
 use mathlib.Core.Bool.{Bool, _||_, _&&_, not}
 use mathlib.Core.List.{List, [], _∷_, _++_}
-use lib.ListN.{length, drop, replicate}
+use lib.ListN.{length, getD, drop, replicate}
 use lib.Dec.{eqb, ltb}
 use Rattle.outline.specs.Lists.{pick, from}
 use Rattle.outline.specs.Outline.{size}
@@ -99,6 +99,13 @@ columns diversities costs (b ∷ bs) = diversities b ∷ costs b ∷ columns div
 -- the columns 0 to the page count: the best diversity, then its cost
 unfoldable pub curveOf : Call → List ℕ
 curveOf c = columns (bestDiversity (c .outline) (c .way)) (leastCost (c .outline) (c .way)) (from 0 (c .count + 1))
+
+-- column b of a curve: its diversity, then its cost
+abbrev pub diversityAt : List ℕ → ℕ → ℕ
+diversityAt curve b = getD curve (2 * b) 0
+
+abbrev pub costAt : List ℕ → ℕ → ℕ
+costAt curve b = getD curve (2 * b + 1) 0
 
 -- a text written at the beginning of a buffer; the rest of the buffer is unchanged
 unfoldable pub over : List ℕ → List ℕ → List ℕ

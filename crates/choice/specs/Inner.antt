@@ -2,7 +2,7 @@
 use Prim.Native.Nat.{ℕ, _+_, _*_, _^_, _<_, _≤_}
 use mathlib.Core.Path.{_≡_}
 use mathlib.Core.List.{List}
-use lib.ListN.{length, getD, replicate}
+use lib.ListN.{length, replicate}
 use Rattle.outline.specs.Outline.{size}
 use Rattle.outline.specs.Refusals.{mostRecords}
 use Rattle.outline.proofs.Kept.{Kept}
@@ -28,10 +28,6 @@ pub record Drawable (work : List ℕ) (width : ℕ) (curve : List ℕ) : Type 0 
   pub room : 2 * width ≤ length curve
   pub diversity-fits : (b : ℕ) → b < width → topDiversity work width b < 2 ^ 32
   pub cost-fits : (b : ℕ) → b < width → topCost work width b < 2 ^ 32
-
--- the diversity of column b as the curve has it
-abbrev pub drawnDiversity : List ℕ → ℕ → ℕ
-drawnDiversity curve b = getD curve (2 * b) 0
 
 -- what solving a call asks: an accepted outline, a page count in its range, and buffers that are long enough
 pub record Solvable (c : Call) : Type 0 where

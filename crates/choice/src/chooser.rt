@@ -6,8 +6,8 @@ ghost use Rattle.choice.specs.Inner.{Solvable, Solved};
 use super::answer::Answer;
 use super::curve::spare_of;
 use super::curve::write_curve;
-use super::judge::cells_of;
 use super::judge::judge;
+use super::judge::work_taken;
 use super::marks::marked;
 use super::marks::write_marks;
 use outline::verdict::Verdict;
@@ -85,8 +85,8 @@ pub fn choose(
     match judge(outline, count, way, marks, curve, work) {
         Verdict::Refused(refusal) => Answer::Refused(refusal),
         Verdict::Accepted => {
-            let cells = cells_of(outline, count);
-            solve(outline, count, way, marks, curve, &mut work[..cells])
+            let taken = work_taken(outline, count);
+            solve(outline, count, way, marks, curve, &mut work[..taken])
         }
     }
 }

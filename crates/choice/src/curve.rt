@@ -4,8 +4,8 @@ ghost use Prim.Native.Nat.{_*_, _<_};
 ghost use lib.ListN.{length};
 ghost use Rattle.outline.specs.Lists.{from};
 ghost use Rattle.diversity.specs.Search.{columnsAlike};
-ghost use Rattle.choice.specs.Answer.{columns, over};
-ghost use Rattle.choice.specs.Inner.{topDiversity, topCost, Drawable, drawnDiversity};
+ghost use Rattle.choice.specs.Answer.{columns, diversityAt, over};
+ghost use Rattle.choice.specs.Inner.{topDiversity, topCost, Drawable};
 use table::best_at;
 
 // Writes the curve from the table's top row.
@@ -27,7 +27,7 @@ pub fn write_curve(work: &[u64], width: usize, curve: &mut [u32])
 // How many quarters can go with the diversity unchanged: from the right end of the curve leftwards until the diversity drops.
 pub fn spare_of(curve: &[u32], count: usize) -> usize
     requires { ⌜ 2 * count < length (now curve) ⌝ }
-    ensures { λ v. ⌜ v ≡ columnsAlike (drawnDiversity (now (curve .entry))) (drawnDiversity (now (curve .entry)) count) count ⌝ }
+    ensures { λ v. ⌜ v ≡ columnsAlike (diversityAt (now (curve .entry))) (diversityAt (now (curve .entry)) count) count ⌝ }
 {
     let diversity = curve[2 * count];
     let mut b = count;

@@ -11,7 +11,7 @@ use outline::verdict::check_size;
 pub const MOST_COUNT: u32 = 4096;
 
 // How many numbers of work an outline takes at a page count.
-pub fn cells_of(outline: &[u8], count: u32) -> usize
+pub fn work_taken(outline: &[u8], count: u32) -> usize
     requires { ⌜ Small (now outline) count ⌝ }
     ensures { λ v. ⌜ v ≡ workTaken (now (outline .entry)) count ⌝ }
 {
@@ -53,7 +53,7 @@ pub fn judge(
     }
     let marks_short = marks.len() < outline.len() / 16;
     let curve_short = curve.len() < 2 * (count as usize + 1);
-    let work_short = work.len() < cells_of(outline, count);
+    let work_short = work.len() < work_taken(outline, count);
     if marks_short | (curve_short | work_short) {
         return Verdict::Refused(Refusal::BufferTooShort);
     }

@@ -1,8 +1,8 @@
 // Case F of document 01: each limit passes, and one more is refused.
-use super::show::Lent;
+use super::show::BufferSizes;
 use super::show::case;
+use super::show::case_with_buffers;
 use super::show::choose_bytes;
-use super::show::lent_case;
 use samples::outlines::comb;
 use samples::outlines::one_record;
 use samples::outlines::star;
@@ -38,33 +38,23 @@ pub fn lengths() {
     );
 }
 
-// Just what one taxon takes at count 4,096 is lent.
-pub fn counts() {
-    let lent = Lent {
+// One taxon, with just the buffers that it takes at count 4,096.
+fn one_taxon(label: &[u8], price: u32, count: u32, way: u32) {
+    let buffers = BufferSizes {
         marks: 1,
         curve: 8194,
         work: 49164,
     };
-    let one = one_record([0, 0, 5, 4096, 7]);
-    lent_case(b"count 4,096, price 4,096, rooted", &one, 1, 4096, 0, lent);
-    lent_case(
-        b"count 4,096, price 4,096, unrooted",
-        &one,
-        1,
-        4096,
-        1,
-        lent,
-    );
-    lent_case(b"count 4,097, price 4,096, rooted", &one, 1, 4097, 0, lent);
-    lent_case(
-        b"count 4,096, price 4,095, rooted",
-        &one_record([0, 0, 5, 4095, 7]),
-        1,
-        4096,
-        0,
-        lent,
-    );
-    lent_case(b"count 4,294,967,295", &one, 1, 4294967295, 0, lent);
+    let one = one_record([0, 0, 5, price, 7]);
+    case_with_buffers(label, &one, 1, count, way, buffers);
+}
+
+pub fn counts() {
+    one_taxon(b"count 4,096, price 4,096, rooted", 4096, 4096, 0);
+    one_taxon(b"count 4,096, price 4,096, unrooted", 4096, 4096, 1);
+    one_taxon(b"count 4,097, price 4,096, rooted", 4096, 4097, 0);
+    one_taxon(b"count 4,096, price 4,095, rooted", 4095, 4096, 0);
+    one_taxon(b"count 4,294,967,295", 4096, 4294967295, 0);
 }
 
 // The highest price is above any count.

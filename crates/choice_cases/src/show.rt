@@ -12,15 +12,15 @@ use samples::words::say_pair;
 use samples::words::say_refusal;
 use std::num::wrapping_add_usize;
 
-// What each byte or number that is lent holds before the call.
+// What each byte or number of the buffers holds before the call.
 const MARK: u8 = 170;
 
 const POINT: u32 = 2863311530;
 
 const WORD: u64 = 12297829382473034410;
 
-// How much of each buffer is lent.
-pub struct Lent {
+// How many bytes or numbers each of the caller's buffers has.
+pub struct BufferSizes {
     pub marks: usize,
     pub curve: usize,
     pub work: usize,
@@ -135,7 +135,6 @@ fn say_wrong(marks: usize, curve: usize, work: usize) {
 
 fn say_refused(refusal: Refusal, marks: &[u8], curve: &[u32], work: &[u64]) {
     say_refusal(refusal);
-    say(b" 0 0 0 0");
     say_wrong(
         changed_marks(marks, 0),
         changed_curve(curve, 0),
@@ -187,17 +186,17 @@ fn answer(
     }
 }
 
-// Choosing from the first bytes, with so much lent.
-fn call(label: &[u8], buffer: &Buffer, bytes: usize, count: u32, way: u32, lent: Lent)
+// Choosing from the first bytes, with buffers of these sizes.
+fn call(label: &[u8], buffer: &Buffer, bytes: usize, count: u32, way: u32, buffers: BufferSizes)
     requires { ⌜ bytes ≤ 2064 ⌝ }
-    requires { ⌜ (lent .marks ≤ 130) × (lent .curve ≤ 8200) × (lent .work ≤ 49200) ⌝ }
+    requires { ⌜ (buffers .marks ≤ 130) × (buffers .curve ≤ 8200) × (buffers .work ≤ 132100) ⌝ }
 {
     let mut marks = [MARK; 130];
     let mut curve = [POINT; 8200];
-    let mut work = [WORD; 49200];
-    let m = lent.marks;
-    let c = lent.curve;
-    let w = lent.work;
+    let mut work = [WORD; 132100];
+    let m = buffers.marks;
+    let c = buffers.curve;
+    let w = buffers.work;
     let o = first_bytes(buffer, bytes);
     answer(
         label,
@@ -210,16 +209,16 @@ fn call(label: &[u8], buffer: &Buffer, bytes: usize, count: u32, way: u32, lent:
     );
 }
 
-// Choosing from the first bytes, with enough lent for 127 records and a count of 2.
+// Choosing from the first bytes, with buffers large enough for 127 records and a count of 2.
 pub fn choose_bytes(label: &[u8], buffer: &Buffer, bytes: usize, count: u32, way: u32)
     requires { ⌜ bytes ≤ 2064 ⌝ }
 {
-    let lent = Lent {
+    let buffers = BufferSizes {
         marks: 130,
         curve: 40,
         work: 1600,
     };
-    call(label, buffer, bytes, count, way, lent);
+    call(label, buffer, bytes, count, way, buffers);
 }
 
 // Choosing from the first n records.
@@ -229,10 +228,17 @@ pub fn case(label: &[u8], buffer: &Buffer, n: usize, count: u32, way: u32)
     choose_bytes(label, buffer, 16 * n, count, way);
 }
 
-// Choosing from the first n records, with so much lent.
-pub fn lent_case(label: &[u8], buffer: &Buffer, n: usize, count: u32, way: u32, lent: Lent)
+// Choosing from the first n records, with buffers of these sizes.
+pub fn case_with_buffers(
+    label: &[u8],
+    buffer: &Buffer,
+    n: usize,
+    count: u32,
+    way: u32,
+    buffers: BufferSizes,
+)
     requires { ⌜ n ≤ 129 ⌝ }
-    requires { ⌜ (lent .marks ≤ 130) × (lent .curve ≤ 8200) × (lent .work ≤ 49200) ⌝ }
+    requires { ⌜ (buffers .marks ≤ 130) × (buffers .curve ≤ 8200) × (buffers .work ≤ 132100) ⌝ }
 {
-    call(label, buffer, 16 * n, count, way, lent);
+    call(label, buffer, 16 * n, count, way, buffers);
 }

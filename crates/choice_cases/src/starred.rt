@@ -1,6 +1,9 @@
-// The starred cases of document 01, A1 to E, and the outline of its listing.
+// The starred cases of document 01, and the outline of its listing.
+use super::show::BufferSizes;
 use super::show::case;
+use super::show::case_with_buffers;
 use samples::outlines::one_record;
+use samples::outlines::pairs;
 use samples::outlines::put;
 use samples::outlines::star;
 use samples::outlines::tree_a;
@@ -71,4 +74,31 @@ pub fn other_cases() {
     let e = one_record([0, 0, 5, 1, 7]);
     case(b"E, rooted, count 1: the taxon", &e, 1, 1, 0);
     case(b"E, unrooted, count 1: none", &e, 1, 1, 1);
+}
+
+// Case G with a sixteenth of document 01's price and columns, to fit the stack: all but the last taxon. The buffers have just
+// what it takes.
+pub fn paired() {
+    let buffers = BufferSizes {
+        marks: 127,
+        curve: 512,
+        work: 132096,
+    };
+    let g = pairs(1, 4);
+    case_with_buffers(
+        b"G with price 4 and count 255, rooted",
+        &g,
+        127,
+        255,
+        0,
+        buffers,
+    );
+    case_with_buffers(
+        b"G with price 4 and count 255, unrooted",
+        &g,
+        127,
+        255,
+        1,
+        buffers,
+    );
 }

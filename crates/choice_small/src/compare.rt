@@ -1,9 +1,14 @@
-// Choosing beside the editor.
+// Choosing beside the trial of every set.
 ghost use Prim.Native.Nat.{_≤_, _<_};
-use super::editor::Worth;
-use super::editor::hands;
-use super::editor::weigh;
-use super::editor::worth_at;
+use super::buffers::Curve;
+use super::buffers::Marks;
+use super::buffers::UNTOUCHED;
+use super::buffers::compare_rest;
+use super::buffers::mark_number;
+use super::exhaustive::Worth;
+use super::exhaustive::incumbents;
+use super::exhaustive::weigh;
+use super::exhaustive::worth_at;
 use super::fields::first;
 use super::fields::length;
 use super::fields::next;
@@ -26,29 +31,29 @@ use std::num::wrapping_sub_u32;
 
 // The curve, column by column.
 fn compare_curve(
-    curve: &[u32; 50],
+    curve: &Curve,
     count: u32,
     diversities: &Worth,
     costs: &Worth,
-    hands: &[u32; 25],
+    incumbents: &[u32; 25],
 ) -> Tally {
     let mut tally = Tally::none();
     let mut b = 0;
     while b < 25 {
         if b <= count as usize {
-            let hand = hands[b];
+            let incumbent = incumbents[b];
             tally = tally.with(
                 b"diversity of column",
                 count,
                 b,
-                worth_at(diversities, hand),
+                worth_at(diversities, incumbent),
                 curve[2 * b],
             );
             tally = tally.with(
                 b"cost of column",
                 count,
                 b,
-                worth_at(costs, hand),
+                worth_at(costs, incumbent),
                 curve[2 * b + 1],
             );
         }
@@ -57,17 +62,19 @@ fn compare_curve(
     tally
 }
 
-fn number(mark: u8) -> u32 {
-    mark as u32
-}
-
 // The marks of n records.
-fn compare_marks(marks: &[u8; 11], n: usize, count: u32, set: &Row) -> Tally {
+fn compare_marks(marks: &Marks, n: usize, count: u32, set: &Row) -> Tally {
     let mut tally = Tally::none();
     let mut r = 1;
     while r < 12 {
         if r <= n {
-            tally = tally.with(b"mark of record", count, r, set[r], number(marks[r - 1]));
+            tally = tally.with(
+                b"mark of record",
+                count,
+                r,
+                set[r],
+                mark_number(marks[r - 1]),
+            );
         }
         r += 1;
     }
@@ -102,13 +109,13 @@ fn compare_call(
     way: u32,
     diversities: &Worth,
     costs: &Worth,
-    hands: &[u32; 25],
+    incumbents: &[u32; 25],
 ) -> Tally
     requires { ⌜ (n ≤ 11) × (count < 25) ⌝ }
 {
-    let mut marks = [9u8; 11];
-    let mut curve = [9u32; 50];
-    let mut work = [9u64; 1300];
+    let mut marks = [UNTOUCHED as u8; 12];
+    let mut curve = [UNTOUCHED; 52];
+    let mut work = [UNTOUCHED as u64; 1310];
     let answer = choose(
         first_bytes(o, 16 * n),
         count,
@@ -117,18 +124,19 @@ fn compare_call(
         &mut curve[..],
         &mut work[..],
     );
-    let hand = hands[count as usize];
-    let set = set_of(o, hand);
+    let incumbent = incumbents[count as usize];
+    let set = set_of(o, incumbent);
     let taxa = below(o, &set)[1];
     let told = compare_answer(
         answer,
         count,
-        worth_at(diversities, hand),
-        worth_at(costs, hand),
+        worth_at(diversities, incumbent),
+        worth_at(costs, incumbent),
         taxa,
     );
     told.plus(compare_marks(&marks, n, count, &set))
-        .plus(compare_curve(&curve, count, diversities, costs, hands))
+        .plus(compare_curve(&curve, count, diversities, costs, incumbents))
+        .plus(compare_rest(n, count, &marks, &curve, &work))
 }
 
 // Every count up to the sum of prices, and up to 24.
@@ -138,14 +146,14 @@ fn compare_counts(o: &Buffer, n: usize, way: u32) -> Tally
     let mut diversities = [0u32; 64];
     let mut costs = [0u32; 64];
     weigh(o, way, &mut diversities, &mut costs);
-    let hands = hands(&diversities, &costs, sets_of(o));
+    let incumbents = incumbents(&diversities, &costs, sets_of(o));
     // the cost of all taxa
     let most = cost(o, &set_of(o, 63));
     let mut tally = Tally::none();
     let mut count = 0;
     while count < 25 {
         if count <= most {
-            tally = tally.plus(compare_call(o, n, count, way, &diversities, &costs, &hands));
+            tally = tally.plus(compare_call(o, n, count, way, &diversities, &costs, &incumbents));
         }
         count += 1;
     }

@@ -134,7 +134,7 @@ pub fn shaped() -> Tally {
 }
 
 // Two groups whose members take turns.
-fn turns() -> Buffer {
+fn two_interleaved() -> Buffer {
     let mut o = one_record([0, 2, 0, 0, 0]);
     put(&mut o, 2, [3, 4, 2, 0, 0]);
     put(&mut o, 3, [0, 5, 1, 0, 0]);
@@ -157,7 +157,7 @@ fn lower_is_later() -> Buffer {
 }
 
 // Three groups of two, whose members take turns.
-fn three_turns(length: u32) -> Buffer {
+fn three_interleaved(length: u32) -> Buffer {
     let mut o = one_record([0, 2, 1, 0, 0]);
     put(&mut o, 2, [3, 5, length, 0, 0]);
     put(&mut o, 3, [4, 6, 1, 0, 0]);
@@ -187,14 +187,14 @@ fn levels() -> Buffer {
 }
 
 pub fn interleaved() -> Tally {
-    let two = both(b"two take turns", &turns(), 7).plus(both(
+    let two = both(b"two take turns", &two_interleaved(), 7).plus(both(
         b"the lower record is later by links",
         &lower_is_later(),
         6,
     ));
-    let three = both(b"three take turns", &three_turns(2), 10).plus(both(
+    let three = both(b"three take turns", &three_interleaved(2), 10).plus(both(
         b"three of no length",
-        &three_turns(0),
+        &three_interleaved(0),
         10,
     ));
     two.plus(three)

@@ -1,8 +1,10 @@
-// Choosing, compared with the patient editor of document 01, who tries every set of taxa: on small outlines, both ways, at
-// every count up to the sum of prices. A line is printed for each outline and way, `ok` if all is alike, and each difference
-// if not; the last line has the number of values compared: columns, marks, and the answers' four numbers.
+// Choosing, compared with a trial of every set of taxa, as the patient editor of document 01 would make it: on small outlines,
+// both ways, at every count up to the sum of prices. A line is printed for each outline and way, `ok` if all is alike, and each
+// difference if not; the last line has the number of values compared: columns, marks, the answers' four numbers, and each cell
+// of the buffers that should be 0 or as it was.
+mod buffers;
 mod compare;
-mod editor;
+mod exhaustive;
 mod fields;
 mod made;
 mod random;

@@ -4,25 +4,26 @@ use mathlib.Core.Path.{_≡_, refl, sym, ap, _∙_}
 use mathlib.Core.Bool.{Bool, true, false}
 use mathlib.Core.List.{List, [], _∷_}
 use native.Mathlib.Omega.{arith}
-use lib.ListN.{length, take, drop, length-drop, List·getD-append}
+use lib.ListN.{length, take, drop, length-drop}
 use lib.Seq.{take-all}
-use borrow.Author.Tests.{eqb-false}
 use Rattle.outline.specs.Lists.{from}
 use Rattle.outline.specs.Outline.{short, size, records}
 use Rattle.outline.specs.Refusals.{Told}
 use Rattle.diversity.specs.Diversity.{chosen}
 use Rattle.laws.proofs.Optimum.{optimum-set}
 use Rattle.choice.specs.Answer.{Call, Reply, refused, judged, isSelected, bestSet, selected, reply, curveOf, over, marksAfter, curveAfter}
+use Rattle.choice.proofs.Answers.{told-selection, selection-told}
+use Rattle.choice.proofs.Buffers.{over-at}
 use Rattle.choice.proofs.Solving.{curve-diversity, curve-cost}
 use Rattle.text.specs.Text.{texts}
-use Rattle.listing.specs.Lent.{columnText, taxonText, columnsText, taxaText, wholeText}
-use Rattle.listing.specs.Printed.{lending, callOf, refusalText, firstLine, columnLine, taxonLine, selectionText, answerText}
+use Rattle.listing.specs.FromBuffers.{columnText, taxonText, columnsText, taxaText, wholeText}
+use Rattle.listing.specs.Printed.{callWith, callOf, refusalText, firstLine, columnLine, taxonLine, selectionText, answerText}
 use Rattle.listing.proofs.Texts.{texts-ext}
 
 -- the call that bytes make: what follows the first four of them is the outline
 pub call-made : (bytes : List ℕ) {o : List ℕ} {count way : ℕ} → o ≡ take (length bytes - 4) (drop 4 bytes)
     → count ≡ short bytes 0 → way ≡ short bytes 2
-    → lending o count way ≡ callOf bytes
+    → callWith o count way ≡ callOf bytes
 unfolding callOf
 call-made bytes {o} {count} {way} e n w =
     let whole : take (length bytes - 4) (drop 4 bytes) ≡ drop 4 bytes = take-all (length bytes - 4) (drop 4 bytes) (rw length-drop (omega arith)) in
@@ -48,28 +49,20 @@ columns-text c rest =
     texts-ext _ _ 0 (c .count + 1) (λ b l u. rw (curve-diversity c rest b (omega arith), curve-cost c rest b (omega arith)))
 
 taxa-text : (c : Call) (rest : List ℕ) → taxaText (c .outline) (over (bestSet c) rest) ≡ texts (taxonLine c) (records (c .outline))
-unfolding over taxaText taxonText taxonLine records chosen
+unfolding taxaText taxonText taxonLine records chosen
 taxa-text c rest =
     let s = bestSet c in
     texts-ext _ _ 1 (size (c .outline)) (λ r l u.
     let h : r - 1 < length s = omega (arith, optimum-set (c .outline) (c .way) (c .count) .whole) in
-    rw (List·getD-append s (drop (length s) rest) 0 (r - 1) h))
+    rw (over-at s rest (r - 1) h))
 
 -- a selection
 module _ (c : Call) (d k t s : ℕ) (e : record { number = 0; place = 0; diversity = d; cost = k; taxa = t; spare = s } ≡ reply c) where
   pub is-selected : isSelected c ≡ true
-  unfolding reply
-  is-selected = go (isSelected c) refl
-    where
-      go : (b : Bool) → isSelected c ≡ b → isSelected c ≡ true
-      go true f = f
-      go false f =
-          let z : 0 ≡ judged c .number = ap (λ (r : Reply). r .number) (rw f at e) in
-          absurd (eqb-false _ _ f (sym z))
+  is-selected = told-selection c (sym (ap (λ (r : Reply). r .number) e))
 
   replied : record { number = 0; place = 0; diversity = d; cost = k; taxa = t; spare = s } ≡ selected c
-  unfolding reply
-  replied = rw is-selected at e
+  replied = e ∙ selection-told c is-selected
 
   pub selected-text : {marks curve : List ℕ} → marks ≡ marksAfter c → curve ≡ curveAfter c
       → wholeText (c .count ∷ c .way ∷ d ∷ k ∷ t ∷ []) curve (c .count + 1) (c .outline) marks ≡ answerText c

@@ -24,7 +24,7 @@ use Rattle.choice.proofs.Answers.{way-known, selected-solvable}
 use Rattle.choice.proofs.Solving.{diversity-most}
 use Rattle.text.specs.Text.{others, line}
 use Rattle.text.proofs.Decimal.{decimal-most}
-use Rattle.listing.specs.Printed.{lending, callOf, refusalText, firstLine, columnLine, taxonLine, selectionText, answerText, printed}
+use Rattle.listing.specs.Printed.{callWith, callOf, refusalText, firstLine, columnLine, taxonLine, selectionText, answerText, printed}
 use Rattle.listing.proofs.Judged.{Placed, judged-placed}
 use Rattle.listing.proofs.Texts.{texts-length}
 
@@ -44,7 +44,11 @@ long-most l at b = omega (arith, short-most l at b, short-most l (at + 2) b)
 refusal-most : (n : ℕ) (t : Told) → n < 1000 → Placed n t → length (refusalText t) ≤ 14
 unfolding refusalText others
 refusal-most n t h p =
-    simp length-append (omega (arith, decimal-most 0 (t .number) (omega (arith, p .number-most)), decimal-most 2 (t .place) (omega (arith, p .place-most))))
+    simp length-append (omega (
+      arith,
+      decimal-most 0 (t .number) (omega (arith, p .number-most)),
+      decimal-most 2 (t .place) (omega (arith, p .place-most)),
+    ))
 
 -- ---- a selection
 module _ (o : List ℕ) (kept : Kept o) (way : ℕ) (s : List ℕ) where
@@ -122,7 +126,7 @@ answer-most c narrow few bytes = go (isSelected c) refl
     go false e = omega (arith, refusal-most (size (c .outline)) (judged c) few (judged-placed c))
 
 call-most : (l : List ℕ) → length l ≤ 2052 → Bytes l → length (answerText (callOf l)) ≤ 16384
-unfolding callOf lending
+unfolding callOf callWith
 call-most l h b =
     answer-most (callOf l) (omega arith) (simp length-drop (omega arith)) (λ i. rw getD-drop (b (4 + i)))
 
@@ -152,5 +156,7 @@ unfolding printed
 printed-fits input b = go (ltb (length input) 4)
   where
     go : (t : Bool) → length (pick t (refusalText (record { number = 2; place = 0 })) (answerText (callOf (take 2052 input)))) ≤ 16384
-    go true = omega (arith, refusal-most 0 (record { number = 2; place = 0 }) (omega arith) (record { number-most = omega arith; place-most = omega arith }))
+    go true =
+        let placed : Placed 0 (record { number = 2; place = 0 }) = record { number-most = omega arith; place-most = omega arith } in
+        omega (arith, refusal-most 0 (record { number = 2; place = 0 }) (omega arith) placed)
     go false = call-most (take 2052 input) (rw length-take (omega arith)) (bytes-taken 2052 input b)

@@ -1,5 +1,5 @@
--- What the definitions give for tree A of document 01, count 5, way 0, which prints in whole what the document says, and for
--- an input that is too short.
+-- What the definitions give for tree A of document 01, count 5, way 0, which prints in whole what the document says; for the
+-- same tree with a link that leads out of it; and for an input that is too short.
 use Prim.Native.Nat.{ℕ}
 use mathlib.Core.Path.{_≡_, refl}
 use mathlib.Core.List.{List, [], _∷_, _++_}
@@ -10,17 +10,17 @@ use Rattle.diversity.specs.Diversity.{chain, clade, chosen, within, elsewhere, 
 use Rattle.diversity.specs.Search.{subsets, leads, better, turn, exhaustiveSearch, setOf, optimum, bestDiversity, leastCost}
 use Rattle.choice.specs.Answer.{tooShort, judged, selected}
 use Rattle.text.specs.Text.{digitsIn, decimal, others, line, texts}
-use Rattle.listing.specs.Printed.{lending, callOf, refusalText, firstLine, columnLine, taxonLine, selectionText, answerText, printed}
+use Rattle.listing.specs.Printed.{callWith, callOf, refusalText, firstLine, columnLine, taxonLine, selectionText, answerText, printed}
 
--- page count, way, and the records: next, first, length, price, plate
-pub treeA : List ℕ
-treeA =
+-- page count, way, and the records: next, first, length, price, plate. In tree A the next of record 5 is 0
+pub treeA : ℕ → List ℕ
+treeA next5 =
     (5 ∷ 0 ∷ 0 ∷ 0 ∷ [])
     ++ (0 ∷ 0 ∷ 2 ∷ 0 ∷ 0 ∷ 0 ∷ 0 ∷ 0 ∷ 0 ∷ 0 ∷ 0 ∷ 0 ∷ 0 ∷ 0 ∷ 0 ∷ 0 ∷ [])
     ++ (5 ∷ 0 ∷ 3 ∷ 0 ∷ 3 ∷ 0 ∷ 0 ∷ 0 ∷ 0 ∷ 0 ∷ 0 ∷ 0 ∷ 0 ∷ 0 ∷ 0 ∷ 0 ∷ [])
     ++ (4 ∷ 0 ∷ 0 ∷ 0 ∷ 4 ∷ 0 ∷ 0 ∷ 0 ∷ 3 ∷ 0 ∷ 0 ∷ 0 ∷ 11 ∷ 0 ∷ 0 ∷ 0 ∷ [])
     ++ (0 ∷ 0 ∷ 0 ∷ 0 ∷ 2 ∷ 0 ∷ 0 ∷ 0 ∷ 1 ∷ 0 ∷ 0 ∷ 0 ∷ 12 ∷ 0 ∷ 0 ∷ 0 ∷ [])
-    ++ (0 ∷ 0 ∷ 0 ∷ 0 ∷ 5 ∷ 0 ∷ 0 ∷ 0 ∷ 2 ∷ 0 ∷ 0 ∷ 0 ∷ 13 ∷ 0 ∷ 0 ∷ 0 ∷ [])
+    ++ (next5 ∷ 0 ∷ 0 ∷ 0 ∷ 5 ∷ 0 ∷ 0 ∷ 0 ∷ 2 ∷ 0 ∷ 0 ∷ 0 ∷ 13 ∷ 0 ∷ 0 ∷ 0 ∷ [])
 
 pub treeAText : List ℕ
 treeAText =
@@ -34,13 +34,20 @@ treeAText =
     ++ (49 ∷ 49 ∷ 32 ∷ 51 ∷ 10 ∷ [])  -- 11 3
     ++ (49 ∷ 51 ∷ 32 ∷ 50 ∷ 10 ∷ [])  -- 13 2
 
-pub tree-a-printed : printed treeA ≡ treeAText
+pub tree-a-printed : printed (treeA 0) ≡ treeAText
 unfolding
     from anywhere total lowest short long records badField naming named badLink taxaIn taxa hasPlate isDuplicate sizeRows
     recordRows chain clade chosen within elsewhere rooted unrooted diversity cost chosenTaxa subsets leads better turn
     exhaustiveSearch setOf optimum bestDiversity leastCost tooShort judged selected digitsIn decimal others line texts
-    lending callOf refusalText firstLine columnLine taxonLine selectionText answerText printed treeA treeAText
+    callWith callOf refusalText firstLine columnLine taxonLine selectionText answerText printed treeA treeAText
 tree-a-printed = refl
+
+-- record 5 of 5 names record 6: refused 6 5
+pub stray-link-printed : printed (treeA 6) ≡ 114 ∷ 101 ∷ 102 ∷ 117 ∷ 115 ∷ 101 ∷ 100 ∷ 32 ∷ 54 ∷ 32 ∷ 53 ∷ 10 ∷ []
+unfolding
+    from anywhere total lowest short long records badField naming named badLink taxaIn taxa hasPlate isDuplicate sizeRows
+    recordRows tooShort judged digitsIn decimal others callWith callOf refusalText answerText printed treeA
+stray-link-printed = refl
 
 -- three bytes: refused 2 0
 pub three-bytes-printed : printed (5 ∷ 0 ∷ 0 ∷ []) ≡ 114 ∷ 101 ∷ 102 ∷ 117 ∷ 115 ∷ 101 ∷ 100 ∷ 32 ∷ 50 ∷ 32 ∷ 48 ∷ 10 ∷ []

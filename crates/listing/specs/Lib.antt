@@ -1,4 +1,4 @@
 -- What the listing program prints.
 pub mod Cases
-pub mod Lent
+pub mod FromBuffers
 pub mod Printed

@@ -12,13 +12,13 @@ use Rattle.choice.specs.Answer.{Call, judged, isSelected, bestSet, selected}
 use Rattle.text.specs.Text.{others, line, texts}
 
 -- the program lends 127 marks, 1,024 curve numbers and 6,528 work numbers
-unfoldable pub lending : List ℕ → ℕ → ℕ → Call
-lending o count way =
+unfoldable pub callWith : List ℕ → ℕ → ℕ → Call
+callWith o count way =
     record { outline = o; count = count; way = way; marks = replicate 127 0; curve = replicate 1024 0; work = replicate 6528 0 }
 
 -- page count (2 bytes), way (2 bytes), both low byte first, then the outline
 unfoldable pub callOf : List ℕ → Call
-callOf bytes = lending (drop 4 bytes) (short bytes 0) (short bytes 2)
+callOf bytes = callWith (drop 4 bytes) (short bytes 0) (short bytes 2)
 
 -- a refusal prints `refused`, number, place
 unfoldable pub refusalText : Told → List ℕ

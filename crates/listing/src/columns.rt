@@ -2,7 +2,7 @@
 ghost use Prim.Native.Nat.{_+_, _*_, _≤_, _<_};
 ghost use lib.ListN.{length};
 ghost use Rattle.text.specs.Page.{Room, Laid};
-ghost use Rattle.listing.specs.Lent.{columnText, columnsText};
+ghost use Rattle.listing.specs.FromBuffers.{columnText, columnsText};
 use text::put_line;
 
 fn put_column(page: &mut [u8], at: usize, curve: &[u32], b: usize) -> usize

@@ -3,7 +3,7 @@ ghost use Prim.Native.Nat.{_*_, _≤_, _<_};
 ghost use lib.ListN.{length};
 ghost use Rattle.outline.specs.Outline.{size};
 ghost use Rattle.text.specs.Page.{Room, Laid};
-ghost use Rattle.listing.specs.Lent.{wholeText};
+ghost use Rattle.listing.specs.FromBuffers.{wholeText};
 ghost use Rattle.listing.specs.Printed.{callOf, answerText, printed};
 use super::columns::put_columns;
 use super::refusal::put_refusal;
@@ -25,7 +25,9 @@ fn put_selection(
 ) -> usize
     requires { ⌜ (0 < length (now first)) × (2 * width ≤ length (now curve)) × (size (now o) ≤ length (now marks)) ⌝ }
     requires { ⌜ Room 0 (wholeText (now first) (now curve) width (now o) (now marks)) (now page) ⌝ }
-    ensures { λ n. ⌜ Laid 0 (wholeText (now (first .entry)) (now (curve .entry)) width (now (o .entry)) (now (marks .entry))) (now (page .entry)) (now (page .exit)) n ⌝ }
+    ensures { λ n. ⌜ Laid 0
+        (wholeText (now (first .entry)) (now (curve .entry)) width (now (o .entry)) (now (marks .entry)))
+        (now (page .entry)) (now (page .exit)) n ⌝ }
 {
     let columns = put_line(page, 0, first);
     let taxa = put_columns(page, columns, curve, width);

@@ -4,7 +4,7 @@ ghost use lib.ListN.{length};
 ghost use Rattle.outline.specs.Inner.{IsRecord};
 ghost use Rattle.outline.specs.Outline.{size};
 ghost use Rattle.text.specs.Page.{Room, Laid};
-ghost use Rattle.listing.specs.Lent.{taxonText, taxaText};
+ghost use Rattle.listing.specs.FromBuffers.{taxonText, taxaText};
 use outline::fields::plate_of;
 use outline::fields::price_of;
 use text::put_line;

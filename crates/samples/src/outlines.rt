@@ -100,6 +100,30 @@ pub fn comb(n: u32, length: u32, price: u32) -> Buffer
     buffer
 }
 
+// Writes record r of 127 in pairs: the two under record r are 2r and 2r + 1, and from 64 on a record is a taxon.
+fn put_paired(buffer: &mut Buffer, r: u32, length: u32, price: u32)
+    requires { ⌜ (1 ≤ r) × (r < 128) ⌝ }
+{
+    let next = if r % 2 == 0 { r + 1 } else { 0 };
+    if r < 64 {
+        put(buffer, r as usize, [next, 2 * r, length, 0, 0]);
+    } else {
+        put(buffer, r as usize, [next, 0, length, price, r]);
+    }
+}
+
+// Six levels of pairs under the root: 127 records, level by level, of which the last 64 are taxa. Every record has the one
+// length and every taxon the one price. A taxon's plate is its record number.
+pub fn pairs(length: u32, price: u32) -> Buffer {
+    let mut buffer = blank();
+    let mut r = 1;
+    while r < 128 {
+        put_paired(&mut buffer, r, length, price);
+        r += 1;
+    }
+    buffer
+}
+
 pub fn first_bytes(buffer: &Buffer, bytes: usize) -> &[u8]
     requires { ⌜ bytes ≤ 2064 ⌝ }
 {

@@ -3,8 +3,7 @@ use mathlib.Core.Path.{_∙_, ap}
 use native.Mathlib.Omega.{arith}
 use lib.ListN.{replicate}
 use borrow.Author.Needs.{needs}
-use Rattle.choice.specs.Answer.{Call}
-use Rattle.choice.specs.Inner.{drawnDiversity}
+use Rattle.choice.specs.Answer.{Call, diversityAt}
 use Rattle.choice.proofs.Solving.{alike-most, table-drawable, solved}
 use Rattle.choice.proofs.chooser.solve.Statement.{statement}
 use Rattle.choice.proofs.chooser.solve.Tie as tie
@@ -51,7 +50,7 @@ cast-t38 c =
     let k = drawing (marking (clearing (c .before .before)) .before .before) in
     let s = start (filling k) in
     let curve = k .write-curve .last .1 .1 .0 in
-    omega (arith, c .spare-of .ensures, alike-most (drawnDiversity curve) (drawnDiversity curve (s .args .count)) (s .args .count), s .pre .low)
+    omega (arith, c .spare-of .ensures, alike-most (diversityAt curve) (diversityAt curve (s .args .count)) (s .args .count), s .pre .low)
 
 returns : tie.Need-returns
 returns c =

@@ -4,13 +4,13 @@ use mathlib.Core.Path.{ap, _∙_}
 use mathlib.Core.Logic.{⊎-elim}
 use native.Mathlib.Omega.{arith}
 use borrow.Author.Needs.{needs}
-use Rattle.choice.specs.Inner.{drawnDiversity}
+use Rattle.choice.specs.Answer.{diversityAt}
 use Rattle.choice.proofs.Columns.{Level, level-starts, level-goes, level-drops, level-ends}
 use Rattle.choice.proofs.curve.spare_of.Statement.{statement}
 use Rattle.choice.proofs.curve.spare_of.Tie as tie
 
 abbrev Inv-loop : tie.InvT-loop
-Inv-loop curve count diversity b₀ b = Level (drawnDiversity curve) diversity count b
+Inv-loop curve count diversity b₀ b = Level (diversityAt curve) diversity count b
 
 abbrev μ-loop : tie.MeasureT-loop
 μ-loop curve count diversity b₀ b = b

@@ -78,8 +78,8 @@ returns-4 c =
 passed8 : (c : tie.After-enum-told4) → after8 (at5 (c .before .before)) ≡ judged (at5 (c .before .before))
 passed8 c = let records = c .before .before in simp (← records .check-records .ensures, c .enum-told4 .given .1) at (passed4 records)
 
-cells-of-requires : tie.Need-cells-of-requires
-cells-of-requires c κs =
+work-taken-requires : tie.Need-work-taken-requires
+work-taken-requires c κs =
     let under = c .before .before .before in
     let size = under .before in
     let checked = size .before .before in
@@ -88,11 +88,11 @@ cells-of-requires c κs =
 
 returns-5 : tie.Need-returns-5
 unfolding tooShort
-returns-5 c = simp (← c .before .cells-of .ensures, c .if3 .taken) at (passed8 (c .before .before))
+returns-5 c = simp (← c .before .work-taken .ensures, c .if3 .taken) at (passed8 (c .before .before))
 
 returns-6 : tie.Need-returns-6
 unfolding tooShort
-returns-6 c = simp (← c .before .cells-of .ensures, c .if3 .left) at (passed8 (c .before .before))
+returns-6 c = simp (← c .before .work-taken .ensures, c .if3 .left) at (passed8 (c .before .before))
 
 pub judge-spec : {M : Type 1} → statement M
 judge-spec =
@@ -110,6 +110,6 @@ judge-spec =
     (λ c. search needs)
     (λ c. search needs)
     (λ c. search needs)
-    cells-of-requires
+    work-taken-requires
     returns-5
     returns-6)

@@ -5,10 +5,10 @@ use Rattle.choice_small.proofs.compare.compare_counts.Statement.{statem
 use Rattle.choice_small.proofs.compare.compare_counts.Tie as tie
 
 abbrev Inv-loop : tie.InvT-loop
-Inv-loop o n way diversities costs hands most tally₀ count₀ tally count = Unit
+Inv-loop o n way diversities costs incumbents most tally₀ count₀ tally count = Unit
 
 abbrev μ-loop : tie.MeasureT-loop
-μ-loop o n way diversities costs hands most tally₀ count₀ tally count = 25 - count
+μ-loop o n way diversities costs incumbents most tally₀ count₀ tally count = 25 - count
 
 pub compare-counts-spec : {M : Type 1} → statement M
 compare-counts-spec =

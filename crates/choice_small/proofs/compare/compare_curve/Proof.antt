@@ -5,10 +5,10 @@ use Rattle.choice_small.proofs.compare.compare_curve.Statement.{stateme
 use Rattle.choice_small.proofs.compare.compare_curve.Tie as tie
 
 abbrev Inv-loop : tie.InvT-loop
-Inv-loop curve count diversities costs hands tally₀ b₀ t9 t10 tally b = Unit
+Inv-loop curve count diversities costs incumbents tally₀ b₀ t9 t10 tally b = Unit
 
 abbrev μ-loop : tie.MeasureT-loop
-μ-loop curve count diversities costs hands tally₀ b₀ t9 t10 tally b = 25 - b
+μ-loop curve count diversities costs incumbents tally₀ b₀ t9 t10 tally b = 25 - b
 
 pub compare-curve-spec : {M : Type 1} → statement M
 compare-curve-spec =

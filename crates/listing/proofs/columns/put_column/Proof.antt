@@ -2,7 +2,7 @@
 use Prim.Native.Nat.{_+_, _*_}
 use native.Mathlib.Omega.{arith}
 use borrow.Author.Needs.{needs}
-use Rattle.listing.specs.Lent.{columnText}
+use Rattle.listing.specs.FromBuffers.{columnText}
 use Rattle.listing.proofs.columns.put_column.Statement.{statement}
 use Rattle.listing.proofs.columns.put_column.Tie as tie
 

@@ -1,7 +1,7 @@
 -- `listing::columns::put_columns` meets its contract: each turn lays a column's line.
 use Prim.Native.Nat.{_-_}
 use borrow.Author.Needs.{needs}
-use Rattle.listing.specs.Lent.{columnText, columnsText}
+use Rattle.listing.specs.FromBuffers.{columnText, columnsText}
 use Rattle.listing.proofs.Walks.{Walking, walking-starts, walking-room, walking-goes, walking-ends}
 use Rattle.listing.proofs.columns.put_columns.Statement.{statement}
 use Rattle.listing.proofs.columns.put_columns.Tie as tie

@@ -11,8 +11,8 @@ use Rattle.outline.proofs.Refusals.{refusal-numbered}
 use Rattle.choice.specs.Answer.{Call, told}
 use Rattle.choice.proofs.Answers.{selected-solvable}
 use Rattle.text.specs.Page.{Room}
-use Rattle.listing.specs.Lent.{wholeText}
-use Rattle.listing.specs.Printed.{lending, callOf, refusalText, answerText}
+use Rattle.listing.specs.FromBuffers.{wholeText}
+use Rattle.listing.specs.Printed.{callWith, callOf, refusalText, answerText}
 use Rattle.listing.proofs.Answers.{call-made, refused-text, is-selected, selected-text}
 use Rattle.listing.proofs.list.list_bytes.Statement.{statement}
 use Rattle.listing.proofs.list.list_bytes.Tie as tie
@@ -31,17 +31,17 @@ abbrev way : tie.After-choose → ℕ
 way c = c .before .before .before .before .before .short-at2 .result
 
 abbrev call : tie.After-choose → Call
-call c = lending (outline c) (count c) (way c)
+call c = callWith (outline c) (count c) (way c)
 
 -- it is the one that the bytes make
 made : (c : tie.After-choose) → call c ≡ callOf (start c .args .bytes .now)
-made c = call-made _ refl (c .before .before .before .before .before .before .short-at .ensures) (c .before .before .before .before .before .short-at2 .ensures)
+made c = let w = c .before .before .before .before .before in call-made _ refl (w .before .short-at .ensures) (w .short-at2 .ensures)
 
 -- ---- a refusal
 refusal-printed : (c : tie.After-known-told) →
     let chosen = c .before .before .before .before .before .before in
     refusalText (refusal (c .before .answer .given .0 .0)) ≡ answerText (callOf (start chosen .args .bytes .now))
-unfolding lending
+unfolding callWith
 refusal-printed c =
     let chosen = c .before .before .before .before .before .before in
     let (e, is) = c .before .answer .given in
@@ -65,7 +65,7 @@ selection-printed : (c : tie.After-known-told2) →
     wholeText (count chosen ∷ way chosen ∷ given .0 ∷ given .1 .0 ∷ given .1 .1 .0 ∷ []) (chosen .choose .last .1 .1 .1 .1 .0) (count chosen + 1)
     (outline chosen) (chosen .choose .last .1 .1 .1 .0)
     ≡ answerText (callOf (start chosen .args .bytes .now))
-unfolding lending
+unfolding callWith
 selection-printed c =
     let chosen = c .before .before .before .before .before .before in
     let (g, is) = c .before .answer2 .given in
@@ -76,11 +76,12 @@ selection-printed c =
 long-enough : (c : tie.After-known-told2) →
     let chosen = c .before .before .before .before .before .before in
     (2 * (count chosen + 1) ≤ length (chosen .choose .last .1 .1 .1 .1 .0)) × (size (outline chosen) ≤ length (chosen .choose .last .1 .1 .1 .0))
-unfolding lending
+unfolding callWith
 long-enough c =
     let chosen = c .before .before .before .before .before .before in
     let (g, is) = c .before .answer2 .given in
-    let passed = selected-solvable (call chosen) (is-selected _ (g .0) (g .1 .0) (g .1 .1 .0) _ (sym (ap told is) ∙ chosen .choose .ensures .told-reply)) in
+    let selection = is-selected _ (g .0) (g .1 .0) (g .1 .1 .0) _ (sym (ap told is) ∙ chosen .choose .ensures .told-reply) in
+    let passed = selected-solvable (call chosen) selection in
     (omega (arith, passed .curve-long, chosen .choose .kept .1 .1 .1 .1 .0), omega (arith, passed .marks-long, chosen .choose .kept .1 .1 .1 .0))
 
 put-selection-requires : tie.Need-put-selection-requires

@@ -3,7 +3,7 @@ use mathlib.Core.List.{_++_}
 use borrow.Author.Needs.{needs}
 use Rattle.text.specs.Text.{line}
 use Rattle.text.proofs.Laying.{Left, left-starts, left-room, left-goes, left-last}
-use Rattle.listing.specs.Lent.{columnsText, taxaText}
+use Rattle.listing.specs.FromBuffers.{columnsText, taxaText}
 use Rattle.listing.proofs.list.put_selection.Statement.{statement}
 use Rattle.listing.proofs.list.put_selection.Tie as tie
 

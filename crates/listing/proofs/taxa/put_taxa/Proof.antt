@@ -2,7 +2,7 @@
 use Prim.Native.Nat.{_+_, _-_}
 use borrow.Author.Needs.{needs}
 use Rattle.outline.specs.Outline.{records}
-use Rattle.listing.specs.Lent.{taxonText, taxaText}
+use Rattle.listing.specs.FromBuffers.{taxonText, taxaText}
 use Rattle.listing.proofs.Walks.{Walking, walking-starts, walking-room, walking-goes, walking-ends}
 use Rattle.listing.proofs.taxa.put_taxa.Statement.{statement}
 use Rattle.listing.proofs.taxa.put_taxa.Tie as tie

@@ -3,7 +3,7 @@ use borrow.Author.Needs.{needs}
 use borrow.Author.Tests.{eq-eqb, ne-eqb}
 use Rattle.diversity.specs.Diversity.{chosen}
 use Rattle.text.proofs.Laying.{laid-none}
-use Rattle.listing.specs.Lent.{taxonText}
+use Rattle.listing.specs.FromBuffers.{taxonText}
 use Rattle.listing.proofs.taxa.put_taxon.Statement.{statement}
 use Rattle.listing.proofs.taxa.put_taxon.Tie as tie
 

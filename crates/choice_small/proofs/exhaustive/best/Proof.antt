@@ -1,14 +1,14 @@
--- `choice_small::editor::best` is safe and ends: the sets go up to the last.
+-- `choice_small::exhaustive::best` is safe and ends: the sets go up to the last.
 use Prim.Native.Nat.{_-_}
 use borrow.Author.Needs.{needs}
-use Rattle.choice_small.proofs.editor.best.Statement.{statement}
-use Rattle.choice_small.proofs.editor.best.Tie as tie
+use Rattle.choice_small.proofs.exhaustive.best.Statement.{statement}
+use Rattle.choice_small.proofs.exhaustive.best.Tie as tie
 
 abbrev Inv-loop : tie.InvT-loop
-Inv-loop diversities costs sets count hand₀ k₀ hand k = Unit
+Inv-loop diversities costs sets count incumbent₀ k₀ incumbent k = Unit
 
 abbrev μ-loop : tie.MeasureT-loop
-μ-loop diversities costs sets count hand₀ k₀ hand k = sets - k
+μ-loop diversities costs sets count incumbent₀ k₀ incumbent k = sets - k
 
 pub best-spec : {M : Type 1} → statement M
 best-spec =

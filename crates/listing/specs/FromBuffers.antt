@@ -1,15 +1,15 @@
--- The lines of a selection, read from the outline and the lent buffers.
-use Prim.Native.Nat.{ℕ, _+_, _*_}
+-- The lines of a selection, read from the outline and the buffers.
+use Prim.Native.Nat.{ℕ}
 use mathlib.Core.List.{List, [], _∷_, _++_}
-use lib.ListN.{getD}
 use Rattle.outline.specs.Lists.{pick, from}
 use Rattle.outline.specs.Outline.{records, price, plate}
 use Rattle.diversity.specs.Diversity.{chosen}
+use Rattle.choice.specs.Answer.{diversityAt, costAt}
 use Rattle.text.specs.Text.{line, texts}
 
 -- column b, from the curve
 unfoldable pub columnText : List ℕ → ℕ → List ℕ
-columnText curve b = line (b ∷ getD curve (2 * b) 0 ∷ getD curve (2 * b + 1) 0 ∷ [])
+columnText curve b = line (b ∷ diversityAt curve b ∷ costAt curve b ∷ [])
 
 -- record r, from the outline and the marks
 unfoldable pub taxonText : List ℕ → List ℕ → ℕ → List ℕ

@@ -1,8 +1,8 @@
--- `choice_small::editor::has_first` is safe and ends: the digits are looked at in order, six at most.
+-- `choice_small::exhaustive::has_first` is safe and ends: the digits are looked at in order, six at most.
 use Prim.Native.Nat.{_-_}
 use borrow.Author.Needs.{needs}
-use Rattle.choice_small.proofs.editor.has_first.Statement.{statement}
-use Rattle.choice_small.proofs.editor.has_first.Tie as tie
+use Rattle.choice_small.proofs.exhaustive.has_first.Statement.{statement}
+use Rattle.choice_small.proofs.exhaustive.has_first.Tie as tie
 
 abbrev Inv-loop : tie.InvT-loop
 Inv-loop x y a₀ b₀ i₀ a b i = Unit

@@ -1,4 +1,4 @@
-// The patient editor of document 01: for each count the best of all sets of at most 6 taxa.
+// The best of all sets of at most 6 taxa for each count, found by trying every set.
 use super::sets::cost;
 use super::sets::diversity;
 use super::sets::set_of;
@@ -56,28 +56,28 @@ fn is_better(diversities: &Worth, costs: &Worth, x: u32, y: u32) -> bool {
     has_first(x, y)
 }
 
-// The set in hand after all sets for a count. The first is the empty set, which fits.
+// The best of all sets for a count. The incumbent is the best so far, at first the empty set, which fits.
 fn best(diversities: &Worth, costs: &Worth, sets: u32, count: u32) -> u32 {
-    let mut hand = 0;
+    let mut incumbent = 0;
     let mut k = 1;
     while k < sets {
         if worth_at(costs, k) <= count {
-            if is_better(diversities, costs, k, hand) {
-                hand = k;
+            if is_better(diversities, costs, k, incumbent) {
+                incumbent = k;
             }
         }
         k += 1;
     }
-    hand
+    incumbent
 }
 
-// For each count from 0 to 24 the set in hand at the end.
-pub fn hands(diversities: &Worth, costs: &Worth, sets: u32) -> [u32; 25] {
-    let mut hands = [0u32; 25];
+// For each count from 0 to 24 the incumbent at the end.
+pub fn incumbents(diversities: &Worth, costs: &Worth, sets: u32) -> [u32; 25] {
+    let mut incumbents = [0u32; 25];
     let mut b: u32 = 0;
     while b < 25 {
-        hands[b as usize] = best(diversities, costs, sets, b);
+        incumbents[b as usize] = best(diversities, costs, sets, b);
         b += 1;
     }
-    hands
+    incumbents
 }

@@ -1,8 +1,8 @@
--- `choice_small::editor::weigh` is safe and ends: the sets go up to 63.
+-- `choice_small::exhaustive::weigh` is safe and ends: the sets go up to 63.
 use Prim.Native.Nat.{_-_}
 use borrow.Author.Needs.{needs}
-use Rattle.choice_small.proofs.editor.weigh.Statement.{statement}
-use Rattle.choice_small.proofs.editor.weigh.Tie as tie
+use Rattle.choice_small.proofs.exhaustive.weigh.Statement.{statement}
+use Rattle.choice_small.proofs.exhaustive.weigh.Tie as tie
 
 abbrev Inv-loop : tie.InvT-loop
 Inv-loop o way diversities₀ costs₀ k₀ diversities costs k = Unit

@@ -1,0 +1,79 @@
+// What choosing should leave in the buffers beside its answer: zeros in the work that it takes, and the rest as it was.
+use super::tally::Tally;
+use std::num::wrapping_add_usize;
+
+// What each byte or number of the buffers holds before the call.
+pub const UNTOUCHED: u32 = 9;
+
+// Each buffer has room beyond what 11 records and a count of 24 take.
+pub type Marks = [u8; 12];
+
+pub type Curve = [u32; 52];
+
+pub type Work = [u64; 1310];
+
+pub fn mark_number(mark: u8) -> u32 {
+    mark as u32
+}
+
+// A number of work, or the highest of 32 bits if it is above them.
+fn work_number(x: u64) -> u32 {
+    if x < 4294967295 {
+        return x as u32;
+    }
+    4294967295
+}
+
+// The marks after those of n records.
+fn compare_marks_after(marks: &Marks, n: usize, count: u32) -> Tally {
+    let mut tally = Tally::none();
+    let mut i = 0;
+    while i < 12 {
+        if n <= i {
+            tally = tally.with(b"mark at", count, i, UNTOUCHED, mark_number(marks[i]));
+        }
+        i += 1;
+    }
+    tally
+}
+
+// The numbers after those of the curve's columns.
+fn compare_curve_after(curve: &Curve, count: u32) -> Tally {
+    let written = 2 * (count as usize + 1);
+    let mut tally = Tally::none();
+    let mut i = 0;
+    while i < 52 {
+        if written <= i {
+            tally = tally.with(b"number of the curve at", count, i, UNTOUCHED, curve[i]);
+        }
+        i += 1;
+    }
+    tally
+}
+
+// What number i of work should be. A selection takes n + 2 rows, of 4 numbers to a column.
+fn wanted_work(i: usize, n: usize, count: u32) -> u32 {
+    let row = 4 * (count as usize + 1);
+    if i / row < wrapping_add_usize(n, 2) {
+        return 0;
+    }
+    UNTOUCHED
+}
+
+fn compare_work(work: &Work, n: usize, count: u32) -> Tally {
+    let mut tally = Tally::none();
+    let mut i = 0;
+    while i < 1310 {
+        let want = wanted_work(i, n, count);
+        tally = tally.with(b"number of work at", count, i, want, work_number(work[i]));
+        i += 1;
+    }
+    tally
+}
+
+// All three buffers after a selection from n records.
+pub fn compare_rest(n: usize, count: u32, marks: &Marks, curve: &Curve, work: &Work) -> Tally {
+    compare_marks_after(marks, n, count)
+        .plus(compare_curve_after(curve, count))
+        .plus(compare_work(work, n, count))
+}
