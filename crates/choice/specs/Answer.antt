@@ -21,6 +21,10 @@ pub record Call : Type 0 where
   pub curve : List ℕ
   pub work : List ℕ
 
+abbrev pub call : List ℕ → ℕ → ℕ → List ℕ → List ℕ → List ℕ → Call
+call outline count way marks curve work =
+    record { outline = outline; count = count; way = way; marks = marks; curve = curve; work = work }
+
 -- the six numbers that a call is told
 pub record Reply : Type 0 where
   pub number : ℕ

@@ -1,7 +1,7 @@
 // Choosing: the call is judged, the table filled and read out, and work cleared.
 ghost use mathlib.Core.Path.{_≡_};
 ghost use lib.ListN.{length, replicate};
-ghost use Rattle.choice.specs.Answer.{Answered};
+ghost use Rattle.choice.specs.Answer.{call, Answered};
 ghost use Rattle.choice.specs.Inner.{Solvable, Solved};
 use super::answer::Answer;
 use super::curve::spare_of;
@@ -35,16 +35,9 @@ fn solve(
     work: &mut [u64],
 ) -> Answer
     requires { ⌜ Solvable
-        (record { outline = now o; count = count; way = way; marks = now marks; curve = now curve; work = now work }) ⌝ }
+        (call (now o) count way (now marks) (now curve) (now work)) ⌝ }
     ensures { λ a. ⌜ Solved
-        (record {
-          outline = now (o .entry);
-          count = count;
-          way = way;
-          marks = now (marks .entry);
-          curve = now (curve .entry);
-          work = now (work .entry);
-        })
+        (call (now (o .entry)) count way (now (marks .entry)) (now (curve .entry)) (now (work .entry)))
         a (now (marks .exit)) (now (curve .exit)) (now (work .exit)) ⌝ }
 {
     let b = count as usize;
@@ -72,14 +65,7 @@ pub fn choose(
     work: &mut [u64],
 ) -> Answer
     ensures { λ a. ⌜ Answered
-        (record {
-          outline = now (outline .entry);
-          count = count;
-          way = way;
-          marks = now (marks .entry);
-          curve = now (curve .entry);
-          work = now (work .entry);
-        })
+        (call (now (outline .entry)) count way (now (marks .entry)) (now (curve .entry)) (now (work .entry)))
         a (now (marks .exit)) (now (curve .exit)) (now (work .exit)) ⌝ }
 {
     match judge(outline, count, way, marks, curve, work) {

@@ -1,7 +1,7 @@
 // The table of refusals, whole: rows 1 to 9 in their order.
 ghost use mathlib.Core.Path.{_≡_};
 ghost use Rattle.outline.specs.Refusals.{told};
-ghost use Rattle.choice.specs.Answer.{workTaken, judged};
+ghost use Rattle.choice.specs.Answer.{call, workTaken, judged};
 ghost use Rattle.choice.specs.Inner.{Small};
 use outline::verdict::Refusal;
 use outline::verdict::Verdict;
@@ -28,14 +28,7 @@ pub fn judge(
     work: &[u64],
 ) -> Verdict
     ensures { λ v. ⌜ told v ≡ judged
-        (record {
-          outline = now (outline .entry);
-          count = count;
-          way = way;
-          marks = now (marks .entry);
-          curve = now (curve .entry);
-          work = now (work .entry);
-        }) ⌝ }
+        (call (now (outline .entry)) count way (now (marks .entry)) (now (curve .entry)) (now (work .entry))) ⌝ }
 {
     if (way != 0) & (way != 1) {
         return Verdict::Refused(Refusal::UnknownWay);

@@ -1,5 +1,5 @@
 -- The steps of crossing a group's clade with the rest of its chain, by pushing either side over the other.
-use Prim.Native.Nat.{ℕ, _+_, _*_, _<_, _≤_}
+use Prim.Native.Nat.{ℕ, _+_, _<_}
 use mathlib.Core.Path.{_≡_, refl, sym, ap, _∙_}
 use mathlib.Core.Logic.{inl, inr}
 use mathlib.Core.List.{List}
@@ -7,8 +7,8 @@ use native.Mathlib.Omega.{arith}
 use lib.ListN.{length}
 use borrow.Author.Tests.{ne-eqb, eqb-false}
 use Rattle.outline.specs.Lists.{pick}
-use Rattle.outline.specs.Outline.{size, next, first, branch, isTaxon}
-use Rattle.outline.proofs.Kept.{Kept, Later}
+use Rattle.outline.specs.Outline.{next, first, branch, isTaxon}
+use Rattle.outline.proofs.Kept.{Kept}
 use Rattle.laws.specs.Candidate.{betterOf, chargeOf}
 use Rattle.laws.specs.Forest.{tree}
 use Rattle.laws.specs.Numbers.{weight}
@@ -16,13 +16,14 @@ use Rattle.laws.proofs.Order.{better-none}
 use Rattle.laws.proofs.Best.{From, from-same}
 use Rattle.rows.specs.Rows.{cladeRow, aloneRow, crossRow}
 use Rattle.rows.proofs.BestRows.{from-charge}
-use Rattle.rows.proofs.Bounds.{Small, branches, codes, rooted-small, pushed-small, branches-step, codes-step, branches-limit, codes-limit}
+use Rattle.rows.proofs.Bounds.{Small, branches, codes, rooted-small, pushed-small, branches-limit, codes-limit}
 use Rattle.rows.proofs.Steps.{pushed-same, cross-step}
 use Rattle.table.specs.Cells.{cell}
 use Rattle.table.specs.Memory.{Blank, Chargeable, Charging}
 use Rattle.table.specs.Table.{start, Ready, Done, pushedFrom, rootedFrom, aloneFrom}
 use Rattle.table.specs.Spread.{Crossable, Crossed}
-use Rattle.table.proofs.Pushing.{gap, small-diversity}
+use Rattle.table.proofs.Places.{gap, own-inside, At, to-next, to-first, branches-here, codes-here}
+use Rattle.table.proofs.Pushing.{small-diversity}
 
 module _ {o : List ℕ} {r to w : ℕ} {l₀ : List ℕ} (s : Crossable o r to w l₀) where
   abbrev kept : Kept o
@@ -34,35 +35,26 @@ module _ {o : List ℕ} {r to w : ℕ} {l₀ : List ℕ} (s : Crossable o r to w
   abbrev f : ℕ
   f = first o r
 
-  to-next : Later o r n
-  to-next = kept .linked .next-later r (s .positive) (s .most)
-
-  to-first : Later o r f
-  to-first = kept .linked .first-later r (s .positive) (s .most)
+  abbrev a : At o r w l₀ n f
+  a = record { base = s .base; positive = s .positive; most = s .most; next-is = refl; first-is = refl }
 
   members : 0 < f
   members =
       let e : f ≡ 0 → ⊥ = eqb-false f 0 (s .group) in
       omega arith
 
-  pub own-inside : 2 * (start w r + 2 * w) ≤ length l₀
-  own-inside = omega (arith, s .base .long, gap w r (size o + 1) (omega (arith, s .most)))
-
-  branches-here : branches o (tree o r) ≡ branch o r + (branches o (tree o f) + branches o (tree o n))
-  branches-here = branches-step o (kept .linked) r (s .most) (s .positive)
-
-  codes-here : codes (weight o) (tree o r) ≡ codes (weight o) (tree o f) + codes (weight o) (tree o n)
-  codes-here =
+  codes-group : codes (weight o) (tree o r) ≡ codes (weight o) (tree o f) + codes (weight o) (tree o n)
+  codes-group =
       let e : pick (isTaxon o r) (weight o r) 0 ≡ 0 = rw (s .group) in
-      omega (arith, e, codes-step o (kept .linked) (weight o) r (s .most) (s .positive))
+      omega (arith, e, codes-here a)
 
   -- the members, pushed over the rest
   pub ready-members : Ready o f (start w r + w) to w l₀
   ready-members =
-      let g = gap w r f (to-first .later members) in
+      let g = gap w r f (to-first a .later members) in
       record {
         base = s .base;
-        most = to-first .most;
+        most = to-first a .most;
         after-before = λ p. omega arith;
         to-before = λ p. omega (arith, s .to-before);
         to-above = s .to-above;
@@ -71,8 +63,8 @@ module _ {o : List ℕ} {r to w : ℕ} {l₀ : List ℕ} (s : Crossable o r to w
           most-diversity = branches o (tree o n);
           most-code = codes (weight o) (tree o n);
           small = λ b h. rw (s .rest-row b (omega (arith, s .base .wide))) (rooted-small o (weight o) (tree o n) b);
-          diversity-fits = omega (arith, branches-here, branches-limit o kept r (s .most));
-          code-fits = omega (arith, codes-here, codes-limit o kept r (s .most));
+          diversity-fits = omega (arith, branches-here a, branches-limit o kept r (s .most));
+          code-fits = omega (arith, codes-group, codes-limit o kept r (s .most));
         };
       }
 
@@ -87,18 +79,18 @@ module _ {o : List ℕ} {r to w : ℕ} {l₀ : List ℕ} (s : Crossable o r to w
 
     none₁ : Blank l₁ 0 w
     none₁ e b h =
-        h₁ .same (0 + b) (λ p. omega (arith, s .to-above, s .to-before, gap w r f (to-first .later p))) (λ p q. omega (arith, s .to-above))
+        h₁ .same (0 + b) (λ p. omega (arith, s .to-above, s .to-before, gap w r f (to-first a .later p))) (λ p q. omega (arith, s .to-above))
         ∙ ap (cell l₀) (omega arith) ∙ s .base .none-row b h
 
     pub chargeable-cross : Chargeable l₁ to to (branch o r) 0 w
     chargeable-cross = record {
-      inside = omega (arith, s .to-before, own-inside);
-      charged = record { inside = omega (arith, s .to-before, own-inside); aside = inl (omega arith) };
-      over = record { inside = omega (arith, s .to-before, own-inside); aside = inr (omega (arith, s .to-above)) };
+      inside = omega (arith, s .to-before, own-inside (s .base) (s .most));
+      charged = record { inside = omega (arith, s .to-before, own-inside (s .base) (s .most)); aside = inl (omega arith) };
+      over = record { inside = omega (arith, s .to-before, own-inside (s .base) (s .most)); aside = inr (omega (arith, s .to-above)) };
       blank = none₁;
       fits = λ i h.
           let small = pushed-small o (weight o) (tree o f) _ _ i (λ b k. rooted-small o (weight o) (tree o n) b) i (omega arith) in
-          rw (pushed₁ i h) (omega (arith, small-diversity small, branches-here, branches-limit o kept r (s .most)));
+          rw (pushed₁ i h) (omega (arith, small-diversity small, branches-here a, branches-limit o kept r (s .most)));
     }
 
     pub crossed-members : {l₂ : List ℕ} → Charging to to (branch o r) 0 w l₁ l₂ → Crossed o r to w l₀ l₂
@@ -108,7 +100,7 @@ module _ {o : List ℕ} {r to w : ℕ} {l₀ : List ℕ} (s : Crossable o r to w
           v .row b (omega arith) h ∙ ap (betterOf (chargeOf (cell l₁ (to + b)) (branch o r))) (none₁ refl b h) ∙ better-none _
           ∙ ap (λ c. chargeOf c (branch o r)) (pushed₁ b h);
       same = λ k p q.
-          v .same k (λ g. q (omega arith)) ∙ h₁ .same k (λ g. omega (arith, gap w r f (to-first .later g))) (λ g. q);
+          v .same k (λ g. q (omega arith)) ∙ h₁ .same k (λ g. omega (arith, gap w r f (to-first a .later g))) (λ g. q);
     }
 
   -- the rest, pushed over the clade
@@ -121,10 +113,10 @@ module _ {o : List ℕ} {r to w : ℕ} {l₀ : List ℕ} (s : Crossable o r to w
 
   pub ready-rest : Ready o n (start w r) to w l₀
   ready-rest =
-      let g = gap w r n (to-next .later (s .more)) in
+      let g = gap w r n (to-next a .later (s .more)) in
       record {
         base = s .base;
-        most = to-next .most;
+        most = to-next a .most;
         after-before = λ p. omega arith;
         to-before = λ p. omega (arith, s .to-before);
         to-above = s .to-above;
@@ -133,8 +125,8 @@ module _ {o : List ℕ} {r to w : ℕ} {l₀ : List ℕ} (s : Crossable o r to w
           most-diversity = branch o r + branches o (tree o f);
           most-code = codes (weight o) (tree o f);
           small = λ b h. rw (s .alone-row b (omega (arith, s .base .wide))) (alone-small b);
-          diversity-fits = omega (arith, branches-here, branches-limit o kept r (s .most));
-          code-fits = omega (arith, codes-here, codes-limit o kept r (s .most));
+          diversity-fits = omega (arith, branches-here a, branches-limit o kept r (s .most));
+          code-fits = omega (arith, codes-group, codes-limit o kept r (s .most));
         };
       }
 
@@ -146,5 +138,5 @@ module _ {o : List ℕ} {r to w : ℕ} {l₀ : List ℕ} (s : Crossable o r to w
             ap (λ t. cell l₁ (t + b)) (sym e) ∙ h₁ .row b h
             ∙ pushed-same o (weight o) (tree o n) b (λ i k. s .alone-row i (omega arith))
             ∙ sym (rw (s .group) at (cross-step o (kept .linked) (weight o) r (s .positive) (s .most) b));
-        same = λ k p q. h₁ .same k (λ g. omega (arith, gap w r n (to-next .later g))) (λ g. q);
+        same = λ k p q. h₁ .same k (λ g. omega (arith, gap w r n (to-next a .later g))) (λ g. q);
       }

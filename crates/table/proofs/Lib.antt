@@ -1,5 +1,6 @@
 -- Laws of candidates, cells and rows, and the steps of the functions that fill the table.
 pub mod Crossing
+pub mod Places
 pub mod Pushing
 pub mod Spreading
 pub mod SpreadSteps

@@ -5,31 +5,25 @@ use mathlib.Core.Logic.{_⊎_, inl, inr, ⊎-elim}
 use mathlib.Core.Bool.{Bool, true, false}
 use mathlib.Core.List.{List}
 use native.Mathlib.Omega.{arith}
-use native.Mathlib.Nat.{mul-le-mul-right}
 use lib.Dec.{eqb}
 use lib.ListN.{length}
 use borrow.Author.Tests.{eq-eqb, ne-eqb}
 use Rattle.outline.specs.Lists.{pick}
-use Rattle.outline.specs.Outline.{size, next, first, branch, price, isTaxon}
-use Rattle.outline.proofs.Kept.{Later, Kept}
+use Rattle.outline.specs.Outline.{size, first, branch, price, isTaxon}
+use Rattle.outline.proofs.Kept.{Later}
 use Rattle.laws.specs.Candidate.{Cand, betterOf, chargeOf}
 use Rattle.laws.specs.Forest.{tree}
 use Rattle.laws.specs.Numbers.{weight}
 use Rattle.laws.proofs.Order.{better-none}
 use Rattle.laws.proofs.Best.{From, nothing, this, from-better}
 use Rattle.rows.specs.Rows.{Row, betterRow, taxonRooted, cladeRow}
-use Rattle.rows.proofs.Bounds.{Small, SmallRow, small-more, branches, codes, pushed-small, branches-step, codes-step}
+use Rattle.rows.proofs.Bounds.{Small, SmallRow, small-more, branches, codes, pushed-small}
 use Rattle.rows.proofs.Steps.{pushed-same, pushed-zero, pushed-step}
 use Rattle.table.specs.Cells.{cell, diversityOf, costOf, codeOf}
 use Rattle.table.specs.Memory.{rowAt, Blank, Betters, Chargeable, Charging, Bettering}
+use Rattle.table.proofs.Places.{gap, base-kept, blank-none, own-inside, At, to-next, to-first, branches-here, codes-here}
 use Rattle.table.proofs.TaxonRows.{join-row, join-same}
 use Rattle.table.specs.Table.{IsTaxon, start, Base, Ready, Done, Followed, TaxonRow, TaxonJoins, pushedFrom}
-
--- ---- places
-pub gap : (w m n : ℕ) → m < n → start w m + 2 * w ≤ start w n
-gap w m n h =
-    let k : m + 1 + 1 ≤ n + 1 = omega arith in
-    omega (arith, mul-le-mul-right w k)
 
 -- one of two, as a number
 pub picked : (b : Bool) {x y s : ℕ} → s ≡ pick b x y → (s ≡ x) ⊎ (s ≡ y)
@@ -52,19 +46,6 @@ module _ {d m b : ℕ} where
   unfolding costOf
   small-cost nothing = omega arith
   small-cost (this p h) = h
-
--- ---- the table's first rows, as long as the row of no set stays
-pub base-kept : {o : List ℕ} {w : ℕ} {l m : List ℕ} → Base o w l → length m ≡ length l → ((b : ℕ) → b < w → cell m b ≡ cell l b) → Base o w m
-base-kept base long same = record {
-  kept = base .kept;
-  wide = base .wide;
-  narrow = base .narrow;
-  long = omega (arith, base .long);
-  none-row = λ b h. same b h ∙ base .none-row b h;
-}
-
-pub blank-none : {o : List ℕ} {w : ℕ} {l : List ℕ} → Base o w l → (a : ℕ) → Blank l a w
-blank-none {l = l} base a e b h = ap (cell l) (omega arith) ∙ base .none-row b h
 
 pub done-none : (o : List ℕ) (after to w : ℕ) {l : List ℕ} → Base o w l → Done o 0 after to w l l 0
 done-none o after to w base = record {
@@ -89,32 +70,14 @@ module _ {to after rest w : ℕ} {l : List ℕ} (h : Betters l to after rest w) 
     same = λ k q. v .same k (λ g. q (omega arith));
   }
 
--- ---- pushing at record r; n is where the rest of its chain begins
-module _ {o : List ℕ} {r after to w : ℕ} {l₀ : List ℕ} (ready : Ready o r after to w l₀) (pos : 0 < r) {n f : ℕ} (en : n ≡ next o r) (ef : f ≡ first o r) where
-  abbrev kept : Kept o
-  kept = ready .base .kept
-
-  pub to-next : Later o r n
-  to-next = rw en (kept .linked .next-later r pos (ready .most))
-
-  pub to-first : Later o r f
-  to-first = rw ef (kept .linked .first-later r pos (ready .most))
-
-  pub own-inside : 2 * (start w r + 2 * w) ≤ length l₀
-  own-inside = omega (arith, ready .base .long, gap w r (size o + 1) (omega (arith, ready .most)))
-
+-- ---- pushing at record r
+module _ {o : List ℕ} {r after to w : ℕ} {l₀ : List ℕ} (ready : Ready o r after to w l₀) {n f : ℕ} (a : At o r w l₀ n f) where
   -- what the row has room for
   abbrev d : ℕ
   d = ready .room .most-diversity
 
   abbrev m : ℕ
   m = ready .room .most-code
-
-  branches-here : branches o (tree o r) ≡ branch o r + (branches o (tree o f) + branches o (tree o n))
-  branches-here = rw (en, ef) (branches-step o (kept .linked) r (ready .most) pos)
-
-  codes-here : codes (weight o) (tree o r) ≡ pick (isTaxon o r) (weight o r) 0 + (codes (weight o) (tree o f) + codes (weight o) (tree o n))
-  codes-here = rw (en, ef) (codes-step o (kept .linked) (weight o) r (ready .most) pos)
 
   -- what comes after the chain, what the rest of the chain makes of it, and the better of the two
   abbrev x : Row
@@ -129,24 +92,24 @@ module _ {o : List ℕ} {r after to w : ℕ} {l₀ : List ℕ} (ready : Ready o 
   pub ready-next : Ready o n after (start w r + w) w l₀
   ready-next = record {
     base = ready .base;
-    most = to-next .most;
-    after-before = λ p. omega (arith, gap w r n (to-next .later p), ready .after-before pos);
-    to-before = λ p. omega (arith, gap w r n (to-next .later p));
+    most = to-next a .most;
+    after-before = λ p. omega (arith, gap w r n (to-next a .later p), ready .after-before (a .positive));
+    to-before = λ p. omega (arith, gap w r n (to-next a .later p));
     to-above = omega arith;
-    apart = inr (omega (arith, ready .after-before pos));
+    apart = inr (omega (arith, ready .after-before (a .positive)));
     room = record {
       most-diversity = d;
       most-code = m;
       small = ready .room .small;
-      diversity-fits = omega (arith, branches-here, ready .room .diversity-fits);
-      code-fits = omega (arith, codes-here, ready .room .code-fits);
+      diversity-fits = omega (arith, branches-here a, ready .room .diversity-fits);
+      code-fits = omega (arith, codes-here a, ready .room .code-fits);
     };
   }
 
   -- the pushed row, from the rest of the chain and from the members
   here : (b : ℕ)
       → pushedFrom o r x b ≡ betterOf (cladeRow o (weight o) r (isTaxon o r) follow (pushedFrom o f follow) b) (y b)
-  here b = rw (en, ef) (pushed-step o (kept .linked) (weight o) r pos (ready .most) b x)
+  here b = rw (a .next-is, a .first-is) (pushed-step o (a .base .kept .linked) (weight o) r (a .positive) (ready .most) b x)
 
   placed : to ≡ pick (eqb r 0) 0 to
   placed = rw (ne-eqb r 0 (λ e. omega arith))
@@ -157,13 +120,13 @@ module _ {o : List ℕ} {r after to w : ℕ} {l₀ : List ℕ} (ready : Ready o 
     rest-place = picked (eqb n 0) (h₁ .place)
 
     below₁ : (k : ℕ) → k < start w r + w → cell l₁ k ≡ cell l₀ k
-    below₁ k h = h₁ .same k (λ p. omega (arith, gap w r n (to-next .later p))) (λ p q. omega arith)
+    below₁ k h = h₁ .same k (λ p. omega (arith, gap w r n (to-next a .later p))) (λ p q. omega arith)
 
     base₁ : Base o w l₁
-    base₁ = base-kept (ready .base) k₁ (λ b h. below₁ b (omega (arith, ready .to-before pos, ready .to-above)))
+    base₁ = base-kept (ready .base) k₁ (λ b h. below₁ b (omega (arith, ready .to-before (a .positive), ready .to-above)))
 
     x₁ : (b : ℕ) → b < w → cell l₁ (after + b) ≡ x b
-    x₁ b h = below₁ (after + b) (omega (arith, ready .after-before pos))
+    x₁ b h = below₁ (after + b) (omega (arith, ready .after-before (a .positive)))
 
     follow₁ : (b : ℕ) → b < w → betterOf (cell l₁ (after + b)) (cell l₁ (rest + b)) ≡ follow b
     follow₁ b h = ap₂ betterOf (x₁ b h) (h₁ .row b h)
@@ -174,15 +137,15 @@ module _ {o : List ℕ} {r after to w : ℕ} {l₀ : List ℕ} (ready : Ready o 
         (pushed-small o (weight o) (tree o n) d m (w - 1) (ready .room .small) b h)
 
     rest-inside : 2 * (rest + w) ≤ length l₁
-    rest-inside = ⊎-elim (λ (e : rest ≡ 0). omega (arith, own-inside)) (λ (e : rest ≡ start w r + w). omega (arith, own-inside)) rest-place
+    rest-inside = ⊎-elim (λ (e : rest ≡ 0). omega (arith, own-inside (ready .base) (ready .most))) (λ (e : rest ≡ start w r + w). omega (arith, own-inside (ready .base) (ready .most))) rest-place
 
     -- a taxon is joined with what may follow
     module _ (z : f ≡ 0) where
       taxon : isTaxon o r ≡ true
-      taxon = eq-eqb _ _ (sym ef ∙ z)
+      taxon = eq-eqb _ _ (sym (a .first-is) ∙ z)
 
       pub is-taxon : IsTaxon o r
-      is-taxon = record { kept = kept; low = pos; high = ready .most; taxon = taxon }
+      is-taxon = record { kept = a .base .kept; low = (a .positive); high = ready .most; taxon = taxon }
 
       pub none-row₁ : Blank l₁ 0 w
       none-row₁ = blank-none base₁ 0
@@ -190,19 +153,19 @@ module _ {o : List ℕ} {r after to w : ℕ} {l₀ : List ℕ} (ready : Ready o 
       pub joins-taxon : TaxonJoins o r after rest to w l₁
       unfolding diversityOf costOf codeOf
       joins-taxon = record {
-        inside = omega (arith, ready .to-before pos, own-inside);
-        first-inside = omega (arith, ready .after-before pos, own-inside);
+        inside = omega (arith, ready .to-before (a .positive), own-inside (ready .base) (ready .most));
+        first-inside = omega (arith, ready .after-before (a .positive), own-inside (ready .base) (ready .most));
         first-apart = ready .apart;
         second-inside = rest-inside;
         second-apart =
             ⊎-elim (λ (e : rest ≡ 0). inr (omega (arith, ready .to-above)))
-            (λ (e : rest ≡ start w r + w). inl (omega (arith, ready .to-before pos))) rest-place;
+            (λ (e : rest ≡ start w r + w). inl (omega (arith, ready .to-before (a .positive)))) rest-place;
         second-blank = blank-none base₁ rest;
         over = record {
           inside = rest-inside;
           aside =
               ⊎-elim (λ (e : rest ≡ 0). inr (omega (arith, ready .to-above)))
-              (λ (e : rest ≡ start w r + w). inl (omega (arith, ready .to-before pos))) rest-place;
+              (λ (e : rest ≡ start w r + w). inl (omega (arith, ready .to-before (a .positive)))) rest-place;
         };
         blank = blank-none base₁ rest;
         fits = λ i h.
@@ -210,9 +173,9 @@ module _ {o : List ℕ} {r after to w : ℕ} {l₀ : List ℕ} (ready : Ready o 
             let weigh : pick (isTaxon o r) (weight o r) 0 ≡ weight o r = rw taxon in
             rw (follow₁ i (omega arith))
             (record {
-              diversity-fits = omega (arith, small-diversity s, branches-here, ready .room .diversity-fits);
+              diversity-fits = omega (arith, small-diversity s, branches-here a, ready .room .diversity-fits);
               cost-fits = omega (arith, small-cost s, ready .base .narrow);
-              code-fits = omega (arith, small-code s, codes-here, weigh, ready .room .code-fits);
+              code-fits = omega (arith, small-code s, codes-here a, weigh, ready .room .code-fits);
             });
       }
 
@@ -227,18 +190,18 @@ module _ {o : List ℕ} {r after to w : ℕ} {l₀ : List ℕ} (ready : Ready o 
             ∙ ap₂ betterOf (join-same _ _ _ _ b (follow₁ (b - price o r) (omega arith)) ∙ join-row (taxonRooted o (weight o) r) follow b)
             (h₁ .row b h)
             ∙ rw (here b, taxon);
-        same = λ k p q. v .same k (λ g. q pos (omega arith)) ∙ below₁ k (omega (arith, p pos));
+        same = λ k p q. v .same k (λ g. q (a .positive) (omega arith)) ∙ below₁ k (omega (arith, p (a .positive)));
       }
 
     -- what may follow r's clade is pushed through its members
     pub betters-follow : Betters l₁ (start w r) after rest w
     betters-follow = record {
-      inside = omega (arith, own-inside);
-      first = record { inside = omega (arith, ready .after-before pos, own-inside); aside = inr (ready .after-before pos) };
+      inside = omega (arith, own-inside (ready .base) (ready .most));
+      first = record { inside = omega (arith, ready .after-before (a .positive), own-inside (ready .base) (ready .most)); aside = inr (ready .after-before (a .positive)) };
       second = record {
         inside = rest-inside;
         aside =
-            ⊎-elim (λ (e : rest ≡ 0). inr (omega (arith, ready .to-above, ready .to-before pos)))
+            ⊎-elim (λ (e : rest ≡ 0). inr (omega (arith, ready .to-above, ready .to-before (a .positive))))
             (λ (e : rest ≡ start w r + w). inl (omega arith)) rest-place;
       };
       blank = blank-none base₁ rest;
@@ -246,7 +209,7 @@ module _ {o : List ℕ} {r after to w : ℕ} {l₀ : List ℕ} (ready : Ready o 
 
     module _ (z : f ≡ 0 → ⊥) {l₂ : List ℕ} {at : ℕ} (h₂ : Followed (start w r) after rest w l₁ l₂ at) (k₂ : length l₂ ≡ length l₁) where
       group : isTaxon o r ≡ false
-      group = ne-eqb _ _ (λ e. z (ef ∙ e))
+      group = ne-eqb _ _ (λ e. z (a .first-is ∙ e))
 
       positive : 0 < f
       positive = omega arith
@@ -260,41 +223,44 @@ module _ {o : List ℕ} {r after to w : ℕ} {l₀ : List ℕ} (ready : Ready o 
       -- the row of the rest stands before the members' rows, and apart from `to` and from what may follow
       rest-before : rest + w ≤ start w f
       rest-before =
-          let g = gap w r f (to-first .later positive) in
-          ⊎-elim (λ (e : rest ≡ 0). omega (arith, ready .to-above, ready .to-before pos)) (λ (e : rest ≡ start w r + w). omega arith) rest-place
+          let g = gap w r f (to-first a .later positive) in
+          ⊎-elim (λ (e : rest ≡ 0). omega (arith, ready .to-above, ready .to-before (a .positive))) (λ (e : rest ≡ start w r + w). omega arith) rest-place
 
       rest-apart : (b : ℕ) → b < w → to ≤ rest + b → to + w ≤ rest + b
       rest-apart b h =
-          ⊎-elim (λ (e : rest ≡ 0). λ q. omega (arith, ready .to-above)) (λ (e : rest ≡ start w r + w). λ q. omega (arith, ready .to-before pos)) rest-place
+          ⊎-elim (λ (e : rest ≡ 0). λ q. omega (arith, ready .to-above)) (λ (e : rest ≡ start w r + w). λ q. omega (arith, ready .to-before (a .positive))) rest-place
 
       rest₂ : (b : ℕ) → b < w → cell l₂ (rest + b) ≡ y b
       rest₂ b h =
           h₂ .same (rest + b)
-          (⊎-elim (λ (e : rest ≡ 0). λ q. omega (arith, ready .to-above, ready .to-before pos)) (λ (e : rest ≡ start w r + w). λ q. omega arith) rest-place)
+          (⊎-elim (λ (e : rest ≡ 0). λ q. omega (arith, ready .to-above, ready .to-before (a .positive))) (λ (e : rest ≡ start w r + w). λ q. omega arith) rest-place)
           ∙ h₁ .row b h
 
       follow₂ : (b : ℕ) → b < w → cell l₂ (at + b) ≡ follow b
       follow₂ b h = h₂ .row b h ∙ follow₁ b h
 
       base₂ : Base o w l₂
-      base₂ = base-kept (ready .base) (k₂ ∙ k₁) (λ b h. below₂ b (omega (arith, ready .to-before pos, ready .to-above)))
+      base₂ = base-kept (ready .base) (k₂ ∙ k₁) (λ b h. below₂ b (omega (arith, ready .to-before (a .positive), ready .to-above)))
 
       pub ready-first : Ready o f at to w l₂
       ready-first =
-          let g = gap w r f (to-first .later positive) in
+          let g = gap w r f (to-first a .later positive) in
           record {
             base = base₂;
-            most = to-first .most;
-            after-before = λ p. ⊎-elim (λ (e : at ≡ after). omega (arith, ready .after-before pos)) (λ (e : at ≡ start w r). omega arith) at-place;
-            to-before = λ p. omega (arith, ready .to-before pos);
+            most = to-first a .most;
+            after-before = λ p.
+                ⊎-elim (λ (e : at ≡ after). omega (arith, ready .after-before (a .positive))) (λ (e : at ≡ start w r). omega arith) at-place;
+            to-before = λ p. omega (arith, ready .to-before (a .positive));
             to-above = ready .to-above;
-            apart = ⊎-elim (λ (e : at ≡ after). rw e (ready .apart)) (λ (e : at ≡ start w r). inl (omega (arith, ready .to-before pos))) at-place;
+            apart =
+                ⊎-elim (λ (e : at ≡ after). rw e (ready .apart)) (λ (e : at ≡ start w r). inl (omega (arith, ready .to-before (a .positive))))
+                at-place;
             room = record {
               most-diversity = d + branches o (tree o n);
               most-code = m + codes (weight o) (tree o n);
               small = λ b h. rw (follow₂ b (omega (arith, ready .base .wide))) (follow-small b h);
-              diversity-fits = omega (arith, branches-here, ready .room .diversity-fits);
-              code-fits = omega (arith, codes-here, ready .room .code-fits);
+              diversity-fits = omega (arith, branches-here a, ready .room .diversity-fits);
+              code-fits = omega (arith, codes-here a, ready .room .code-fits);
             };
           }
 
@@ -312,18 +278,18 @@ module _ {o : List ℕ} {r after to w : ℕ} {l₀ : List ℕ} (ready : Ready o 
 
         pub chargeable : Chargeable l₃ to to (branch o r) rest w
         chargeable = record {
-          inside = omega (arith, ready .to-before pos, own-inside);
-          charged = record { inside = omega (arith, ready .to-before pos, own-inside); aside = inl (omega arith) };
+          inside = omega (arith, ready .to-before (a .positive), own-inside (ready .base) (ready .most));
+          charged = record { inside = omega (arith, ready .to-before (a .positive), own-inside (ready .base) (ready .most)); aside = inl (omega arith) };
           over = record {
             inside = omega (arith, rest-inside);
             aside =
                 ⊎-elim (λ (e : rest ≡ 0). inr (omega (arith, ready .to-above)))
-                (λ (e : rest ≡ start w r + w). inl (omega (arith, ready .to-before pos))) rest-place;
+                (λ (e : rest ≡ start w r + w). inl (omega (arith, ready .to-before (a .positive)))) rest-place;
           };
           blank = λ e b h. rest₃ b h ∙ sym (h₁ .row b h) ∙ blank-none base₁ rest e b h;
           fits = λ i h.
               let s = pushed-small o (weight o) (tree o f) _ _ (w - 1) follow-small i (omega arith) in
-              rw (members₃ i h) (omega (arith, small-diversity s, branches-here, ready .room .diversity-fits));
+              rw (members₃ i h) (omega (arith, small-diversity s, branches-here a, ready .room .diversity-fits));
         }
 
         pub done-group : {l₄ : List ℕ} → Charging to to (branch o r) rest w l₃ l₄ → Done o r after to w l₀ l₄ to
@@ -333,8 +299,9 @@ module _ {o : List ℕ} {r after to w : ℕ} {l₀ : List ℕ} (ready : Ready o 
           row = λ b h.
               v .row b (omega arith) h ∙ ap₂ betterOf (ap (λ c. chargeOf c (branch o r)) (members₃ b h)) (rest₃ b h) ∙ rw (here b, group);
           same = λ k p q.
-              let g = gap w r f (to-first .later positive) in
-              v .same k (λ e. q pos (omega arith)) ∙ h₃ .same k (λ e. omega (arith, p pos)) (λ e. q pos) ∙ below₂ k (p pos);
+              let g = gap w r f (to-first a .later positive) in
+              v .same k (λ e. q (a .positive) (omega arith)) ∙ h₃ .same k (λ e. omega (arith, p (a .positive))) (λ e. q (a .positive))
+              ∙ below₂ k (p (a .positive));
         }
 
 -- ---- how many records are left from r on: fewer at each link

@@ -10,7 +10,7 @@ use lib.ListN.{length}
 use borrow.Author.Tests.{eq-eqb, ne-eqb}
 use Rattle.outline.specs.Lists.{pick}
 use Rattle.outline.specs.Outline.{size, next, first, branch, price, records, isTaxon}
-use Rattle.outline.proofs.Kept.{Kept, Later}
+use Rattle.outline.proofs.Kept.{Kept}
 use Rattle.laws.specs.Candidate.{nothingWorth, none, some, betterOf, chargeOf, oneAt}
 use Rattle.laws.specs.Forest.{tree}
 use Rattle.laws.specs.Numbers.{weight}
@@ -18,13 +18,14 @@ use Rattle.laws.proofs.Sums.{total-most}
 use Rattle.laws.proofs.Forest.{tree-zero, tree-step, sum-part}
 use Rattle.laws.proofs.Order.{better-none}
 use Rattle.rows.specs.Rows.{betterRow, joinRow, taxonRooted, cladeRow, rootedRow, aloneRow, crossRow, singleRow, acrossRow}
-use Rattle.rows.proofs.Bounds.{branches, codes, rooted-small, branches-step, codes-step, branches-limit, codes-limit}
+use Rattle.rows.proofs.Bounds.{branches, codes, rooted-small, branches-limit, codes-limit}
 use Rattle.rows.proofs.Steps.{pushed-zero, pushed-step, rooted-step, across-step, cross-step}
 use Rattle.table.specs.Cells.{cell}
 use Rattle.table.specs.Memory.{rowAt, Chargeable, chargeOver, Charging}
 use Rattle.table.specs.Table.{taxonWorth, start, Base, pushedFrom, rootedFrom, acrossFrom, aloneFrom, crossFrom}
 use Rattle.table.specs.Spread.{Running, recordsIn, Spreadable, Spread, TaxonSpreadable, TaxonSpread, Crossable, Crossed, Meets, Met}
-use Rattle.table.proofs.Pushing.{gap, picked, small-diversity, base-kept, blank-none}
+use Rattle.table.proofs.Places.{gap, base-kept, blank-none, own-inside, own-above, At, to-next, to-first, branches-here, codes-here}
+use Rattle.table.proofs.Pushing.{picked, small-diversity}
 use Rattle.table.proofs.Spreading.{least-kept, join-row-same, shuffle}
 use Rattle.table.proofs.TaxonRows.{join-row, join-same}
 
@@ -68,37 +69,16 @@ running-spread {o} {r} {to} {w} {l} s h len = record {
 }
 
 -- ---- spreading at record r
-module _ {o : List ℕ} {r to w : ℕ} {l₀ : List ℕ} (s : Spreadable o r to w l₀) (pos : 0 < r) {n f : ℕ} (en : n ≡ next o r) (ef : f ≡ first o r) where
-  abbrev kept : Kept o
-  kept = s .running .base .kept
-
-  pub to-next : Later o r n
-  to-next = rw en (kept .linked .next-later r pos (s .most))
-
-  pub to-first : Later o r f
-  to-first = rw ef (kept .linked .first-later r pos (s .most))
-
-  pub own-inside : 2 * (start w r + 2 * w) ≤ length l₀
-  own-inside = omega (arith, s .running .base .long, gap w r (size o + 1) (omega (arith, s .most)))
-
-  own-above : 4 * w ≤ start w r
-  own-above = omega (arith, gap w 0 r pos)
-
-  branches-here : branches o (tree o r) ≡ branch o r + (branches o (tree o f) + branches o (tree o n))
-  branches-here = rw (en, ef) (branches-step o (kept .linked) r (s .most) pos)
-
-  codes-here : codes (weight o) (tree o r) ≡ pick (isTaxon o r) (weight o r) 0 + (codes (weight o) (tree o f) + codes (weight o) (tree o n))
-  codes-here = rw (en, ef) (codes-step o (kept .linked) (weight o) r (s .most) pos)
-
+module _ {o : List ℕ} {r to w : ℕ} {l₀ : List ℕ} (s : Spreadable o r to w l₀) {n f : ℕ} (a : At o r w l₀ n f) where
   records-here : recordsIn (tree o r) ≡ 1 + (recordsIn (tree o f) + recordsIn (tree o n))
-  records-here = rw (en, ef) (ap recordsIn (tree-step o (kept .linked) r pos (s .most)))
+  records-here = rw (a .next-is, a .first-is) (ap recordsIn (tree-step o (a .base .kept .linked) r (a .positive) (s .most)))
 
   pub spreadable-next : Spreadable o n (start w r + w) w l₀
   spreadable-next = record {
     running = s .running;
-    most = to-next .most;
-    to-before = λ p. omega (arith, gap w r n (to-next .later p));
-    to-above = omega (arith, own-above);
+    most = to-next a .most;
+    to-before = λ p. omega (arith, gap w r n (to-next a .later p));
+    to-above = omega (arith, own-above a);
   }
 
   module _ {l₁ : List ℕ} {later : ℕ} (h₁ : Spread o n (start w r + w) w l₀ l₁ later) (k₁ : length l₁ ≡ length l₀) where
@@ -106,12 +86,12 @@ module _ {o : List ℕ} {r to w : ℕ} {l₀ : List ℕ} (s : Spreadable o r to 
     running₁ = running-spread spreadable-next h₁ k₁
 
     below₁ : (k : ℕ) → k < start w r + w → (2 * w ≤ k → 3 * w ≤ k) → cell l₁ k ≡ cell l₀ k
-    below₁ k h g = h₁ .same k (λ p. omega (arith, gap w r n (to-next .later p))) (λ p q. omega arith) g
+    below₁ k h g = h₁ .same k (λ p. omega (arith, gap w r n (to-next a .later p))) (λ p q. omega arith) g
 
     -- a taxon, with the rest of its chain at `rest`
     module _ (z : f ≡ 0) {rest : ℕ} (er : rest ≡ pick (eqb n 0) 0 (start w r + w)) where
       taxon : isTaxon o r ≡ true
-      taxon = eq-eqb _ _ (sym ef ∙ z)
+      taxon = eq-eqb _ _ (sym (a .first-is) ∙ z)
 
       rest-row : (b : ℕ) → b < w → cell l₁ (rest + b) ≡ rootedFrom o n b
       rest-row b h = go n refl
@@ -119,10 +99,10 @@ module _ {o : List ℕ} {r to w : ℕ} {l₀ : List ℕ} (s : Spreadable o r to 
           go : (k : ℕ) → n ≡ k → cell l₁ (rest + b) ≡ rootedFrom o n b
           go zero e =
               let e′ : rest ≡ 0 = er ∙ rw e in
-              blank-none (running₁ .base) rest e′ b h ∙ sym (ap (λ q. rootedFrom o q b) e ∙ rooted-zero o kept b)
+              blank-none (running₁ .base) rest e′ b h ∙ sym (ap (λ q. rootedFrom o q b) e ∙ rooted-zero o (a .base .kept) b)
           go (suc k) e =
               let e′ : rest ≡ start w r + w = er ∙ rw (ne-eqb n 0 (λ q. omega arith)) in
-              ap (λ a. cell l₁ (a + b)) e′ ∙ h₁ .row (omega arith) b h
+              ap (λ q. cell l₁ (q + b)) e′ ∙ h₁ .row (omega arith) b h
 
       pub taxon-spreadable : TaxonSpreadable o r rest to w l₁
       taxon-spreadable =
@@ -130,35 +110,35 @@ module _ {o : List ℕ} {r to w : ℕ} {l₀ : List ℕ} (s : Spreadable o r to 
           record {
             pairs = record {
               running = running₁;
-              is = record { kept = kept; low = pos; high = s .most; taxon = taxon };
-              rest-place = ⊎-elim inl (λ (e : rest ≡ start w r + w). inr (omega (arith, own-above))) (picked (eqb n 0) er);
+              is = record { kept = a .base .kept; low = a .positive; high = s .most; taxon = taxon };
+              rest-place = ⊎-elim inl (λ (e : rest ≡ start w r + w). inr (omega (arith, own-above a))) (picked (eqb n 0) er);
               rest-inside =
-                  ⊎-elim (λ (e : rest ≡ 0). omega (arith, own-inside)) (λ (e : rest ≡ start w r + w). omega (arith, own-inside)) (picked (eqb n 0) er);
+                  ⊎-elim (λ (e : rest ≡ 0). omega (arith, own-inside (a .base) (a .most))) (λ (e : rest ≡ start w r + w). omega (arith, own-inside (a .base) (a .most))) (picked (eqb n 0) er);
               most-diversity = branches o (tree o n);
               most-code = codes (weight o) (tree o n);
               small = λ b h. rw (rest-row b h) (rooted-small o (weight o) (tree o n) b);
-              diversity-fits = omega (arith, branches-here, branches-limit o kept r (s .most));
-              code-fits = omega (arith, weigh, codes-here, codes-limit o kept r (s .most));
+              diversity-fits = omega (arith, branches-here a, branches-limit o (a .base .kept) r (s .most));
+              code-fits = omega (arith, weigh, codes-here a, codes-limit o (a .base .kept) r (s .most));
             };
             to-above = s .to-above;
-            to-inside = omega (arith, s .to-before pos, own-inside);
-            to-before = ⊎-elim inl (λ (e : rest ≡ start w r + w). inr (omega (arith, s .to-before pos))) (picked (eqb n 0) er);
+            to-inside = omega (arith, s .to-before (a .positive), own-inside (a .base) (a .most));
+            to-before = ⊎-elim inl (λ (e : rest ≡ start w r + w). inr (omega (arith, s .to-before (a .positive)))) (picked (eqb n 0) er);
           }
 
       members-none : (b : ℕ) → acrossFrom o (first o r) b ≡ none
-      members-none b = ap (λ q. acrossFrom o q b) (sym ef ∙ z) ∙ across-zero o kept b
+      members-none b = ap (λ q. acrossFrom o q b) (sym (a .first-is) ∙ z) ∙ across-zero o (a .base .kept) b
 
       rooted-taxon : (b : ℕ) → rootedFrom o r b
           ≡ betterOf (joinRow (taxonRooted o (weight o) r) (betterRow (λ i. some nothingWorth) (rootedFrom o n)) b) (rootedFrom o n b)
       unfolding rootedRow cladeRow
-      rooted-taxon b = rw en (rw taxon at (pushed-step o (kept .linked) (weight o) r pos (s .most) b (λ i. some nothingWorth)))
+      rooted-taxon b = rw (a .next-is) (rw taxon at (pushed-step o (a .base .kept .linked) (weight o) r (a .positive) (s .most) b (λ i. some nothingWorth)))
 
       across-taxon : (b : ℕ) → acrossFrom o r b
           ≡ betterOf (betterOf (oneAt (taxonWorth o r 0) b) (acrossFrom o n b)) (joinRow (taxonRooted o (weight o) r) (rootedFrom o n) b)
       unfolding singleRow crossRow cladeRow
       across-taxon b =
-          rw en
-          ((rw taxon at (across-step o (kept .linked) (weight o) r pos (s .most) b))
+          rw (a .next-is)
+          ((rw taxon at (across-step o (a .base .kept .linked) (weight o) r (a .positive) (s .most) b))
           ∙ ap
           (λ c. betterOf (betterOf c (acrossFrom o (next o r) b)) (joinRow (taxonRooted o (weight o) r) (rootedFrom o (next o r)) b))
           (ap (betterOf (oneAt (taxonWorth o r 0) b)) (members-none b) ∙ better-none _))
@@ -178,7 +158,7 @@ module _ {o : List ℕ} {r to w : ℕ} {l₀ : List ℕ} (s : Spreadable o r to 
             ∙ ap₂ betterOf (ap (λ c. betterOf c (oneAt (taxonWorth o r 0) b)) (h₁ .top b h))
             (join-row-same _ _ (rootedFrom o n) b (rest-row (b - price o r) (omega arith)))
             ∙ shuffle _ _ _ _ ∙ ap (betterOf (cell l₀ (2 * w + b))) (sym (across-taxon b));
-        same = λ k p q g. h₂ .same k (q pos) g ∙ below₁ k (omega (arith, p pos)) g;
+        same = λ k p q g. h₂ .same k (q (a .positive)) g ∙ below₁ k (omega (arith, p (a .positive))) g;
         records =
             let e : recordsIn (tree o f) ≡ 0 = ap (λ q. recordsIn (tree o q)) z ∙ records-zero o in
             omega (arith, e, records-here, h₁ .records);
@@ -187,22 +167,22 @@ module _ {o : List ℕ} {r to w : ℕ} {l₀ : List ℕ} (s : Spreadable o r to 
     -- a group
     module _ (z : f ≡ 0 → ⊥) where
       group : isTaxon o r ≡ false
-      group = ne-eqb _ _ (λ e. z (ef ∙ e))
+      group = ne-eqb _ _ (λ e. z (a .first-is ∙ e))
 
       positive : 0 < f
       positive = omega arith
 
       first-gap : start w r + 2 * w ≤ start w f
-      first-gap = gap w r f (to-first .later positive)
+      first-gap = gap w r f (to-first a .later positive)
 
       rooted-group : (b : ℕ) → rootedFrom o r b
           ≡ betterOf (betterOf (aloneFrom o r f b) (rootedFrom o n b)) (crossFrom o r f n b)
-      rooted-group b = rw (en, ef) (rw group at (rooted-step o (kept .linked) (weight o) r pos (s .most) b))
+      rooted-group b = rw (a .next-is, a .first-is) (rw group at (rooted-step o (a .base .kept .linked) (weight o) r (a .positive) (s .most) b))
 
       across-group : (b : ℕ) → acrossFrom o r b
           ≡ betterOf (betterOf (acrossFrom o f b) (acrossFrom o n b)) (crossFrom o r f n b)
       unfolding singleRow betterOf
-      across-group b = rw (en, ef) (rw group at (across-step o (kept .linked) (weight o) r pos (s .most) b))
+      across-group b = rw (a .next-is, a .first-is) (rw group at (across-step o (a .base .kept .linked) (weight o) r (a .positive) (s .most) b))
 
       -- a row of the members is charged with r's branch: it is what r's clade has alone
       module _ {l₂ : List ℕ} {at : ℕ} (members : (b : ℕ) → b < w → cell l₂ (at + b) ≡ rootedFrom o f b) (base₂ : Base o w l₂)
@@ -215,7 +195,7 @@ module _ {o : List ℕ} {r to w : ℕ} {l₀ : List ℕ} (s : Spreadable o r to 
           blank = blank-none base₂ 0;
           fits = λ i h.
               rw (members i h)
-              (omega (arith, small-diversity (rooted-small o (weight o) (tree o f) i), branches-here, branches-limit o kept r (s .most)));
+              (omega (arith, small-diversity (rooted-small o (weight o) (tree o f) i), branches-here a, branches-limit o (a .base .kept) r (s .most)));
         }
 
         alone-row : (b : ℕ) → b < w → chargeOver (rowAt l₂ at) (branch o r) (rowAt l₂ 0) b ≡ aloneFrom o r f b
@@ -229,26 +209,26 @@ module _ {o : List ℕ} {r to w : ℕ} {l₀ : List ℕ} (s : Spreadable o r to 
         pub spreadable-last : Spreadable o f to w l₁
         spreadable-last = record {
           running = running₁;
-          most = to-first .most;
-          to-before = λ p. omega (arith, first-gap, s .to-before pos);
+          most = to-first a .most;
+          to-before = λ p. omega (arith, first-gap, s .to-before (a .positive));
           to-above = s .to-above;
         }
 
         rest-none : (b : ℕ) → rootedFrom o n b ≡ none
-        rest-none b = ap (λ q. rootedFrom o q b) last ∙ rooted-zero o kept b
+        rest-none b = ap (λ q. rootedFrom o q b) last ∙ rooted-zero o (a .base .kept) b
 
         cross-none : (b : ℕ) → crossFrom o r f n b ≡ none
         cross-none b =
-            rw (en, ef) (rw group at (cross-step o (kept .linked) (weight o) r pos (s .most) b))
+            rw (a .next-is, a .first-is) (rw group at (cross-step o (a .base .kept .linked) (weight o) r (a .positive) (s .most) b))
             ∙ ap (λ q. pushedFrom o q (aloneFrom o r f) b) last
-            ∙ pushed-zero o (kept .linked) (weight o) _ b
+            ∙ pushed-zero o (a .base .kept .linked) (weight o) _ b
 
         module _ {l₂ : List ℕ} {members : ℕ} (h₂ : Spread o f to w l₁ l₂ members) (k₂ : length l₂ ≡ length l₁) where
           base₂ : Base o w l₂
           base₂ = running-spread spreadable-last h₂ k₂ .base
 
           to-inside : 2 * (to + w) ≤ length l₂
-          to-inside = omega (arith, s .to-before pos, own-inside)
+          to-inside = omega (arith, s .to-before (a .positive), own-inside (a .base) (a .most))
 
           pub chargeable-last : Chargeable l₂ to to (branch o r) 0 w
           chargeable-last = chargeable-alone (h₂ .row positive) base₂ (omega (arith, s .to-above)) to-inside
@@ -263,8 +243,8 @@ module _ {o : List ℕ} {r to w : ℕ} {l₀ : List ℕ} (s : Spreadable o r to 
                 ∙ ap (λ c. betterOf c (acrossFrom o f b)) (h₁ .top b h) ∙ sym (better-none _) ∙ shuffle _ _ _ _
                 ∙ ap (betterOf (cell l₀ (2 * w + b))) (sym (across-group b ∙ ap (betterOf _) (cross-none b)));
             same = λ k p q g.
-                v .same k (λ e. q pos (omega arith)) ∙ h₂ .same k (λ e. omega (arith, first-gap, p pos)) (λ e. q pos) g
-                ∙ below₁ k (omega (arith, p pos)) g;
+                v .same k (λ e. q (a .positive) (omega arith)) ∙ h₂ .same k (λ e. omega (arith, first-gap, p (a .positive))) (λ e. q (a .positive)) g
+                ∙ below₁ k (omega (arith, p (a .positive))) g;
             records =
                 let e : recordsIn (tree o n) ≡ 0 = ap (λ q. recordsIn (tree o q)) last ∙ records-zero o in
                 omega (arith, e, records-here, h₂ .records);
@@ -278,9 +258,9 @@ module _ {o : List ℕ} {r to w : ℕ} {l₀ : List ℕ} (s : Spreadable o r to 
         pub spreadable-first : Spreadable o f (start w r) w l₁
         spreadable-first = record {
           running = running₁;
-          most = to-first .most;
+          most = to-first a .most;
           to-before = λ p. omega (arith, first-gap);
-          to-above = omega (arith, own-above);
+          to-above = omega (arith, own-above a);
         }
 
         module _ {l₂ : List ℕ} {members : ℕ} (h₂ : Spread o f (start w r) w l₁ l₂ members) (k₂ : length l₂ ≡ length l₁) where
@@ -288,33 +268,33 @@ module _ {o : List ℕ} {r to w : ℕ} {l₀ : List ℕ} (s : Spreadable o r to 
           running₂ = running-spread spreadable-first h₂ k₂
 
           pub chargeable-first : Chargeable l₂ (start w r) (start w r) (branch o r) 0 w
-          chargeable-first = chargeable-alone (h₂ .row positive) (running₂ .base) (omega (arith, own-above)) (omega (arith, own-inside))
+          chargeable-first = chargeable-alone (h₂ .row positive) (running₂ .base) (omega (arith, own-above a)) (omega (arith, own-inside (a .base) (a .most)))
 
           rest₂ : (b : ℕ) → b < w → cell l₂ (start w r + w + b) ≡ rootedFrom o n b
           rest₂ b h =
-              h₂ .same (start w r + w + b) (λ p. omega (arith, first-gap)) (λ p q. omega arith) (λ q. omega (arith, own-above))
+              h₂ .same (start w r + w + b) (λ p. omega (arith, first-gap)) (λ p q. omega arith) (λ q. omega (arith, own-above a))
               ∙ h₁ .row next-positive b h
 
           module _ {l₃ : List ℕ} (h₃ : Charging (start w r) (start w r) (branch o r) 0 w l₂ l₃) (k₃ : length l₃ ≡ length l₂) where
             alone₃ : (b : ℕ) → b < w → cell l₃ (start w r + b) ≡ aloneFrom o r f b
             alone₃ b h =
                 h₃ .row b (omega arith) h
-                ∙ alone-row (h₂ .row positive) (running₂ .base) (omega (arith, own-above)) (omega (arith, own-inside)) b h
+                ∙ alone-row (h₂ .row positive) (running₂ .base) (omega (arith, own-above a)) (omega (arith, own-inside (a .base) (a .most))) b h
 
             rest₃ : (b : ℕ) → b < w → cell l₃ (start w r + w + b) ≡ rootedFrom o n b
             rest₃ b h = h₃ .same (start w r + w + b) (λ q. omega arith) ∙ rest₂ b h
 
             pub crossable : Crossable o r to w l₃
             crossable = record {
-              base = base-kept (running₂ .base) k₃ (λ b h. h₃ .same b (λ q. omega (arith, own-above)));
-              positive = pos;
+              base = base-kept (running₂ .base) k₃ (λ b h. h₃ .same b (λ q. omega (arith, own-above a)));
+              positive = a .positive;
               most = s .most;
               group = group;
               to-above = omega (arith, s .to-above);
-              to-before = s .to-before pos;
-              more = rw (← en) next-positive;
-              alone-row = rw (← ef) alone₃;
-              rest-row = rw (← en) rest₃;
+              to-before = s .to-before (a .positive);
+              more = rw (← a .next-is) next-positive;
+              alone-row = rw (← a .first-is) alone₃;
+              rest-row = rw (← a .next-is) rest₃;
             }
 
             module _ {l₄ : List ℕ} (h₄ : Crossed o r to w l₃ l₄) (k₄ : length l₄ ≡ length l₃) where
@@ -322,22 +302,22 @@ module _ {o : List ℕ} {r to w : ℕ} {l₀ : List ℕ} (s : Spreadable o r to 
               meets = record {
                 wide = s .running .base .wide;
                 to-above = s .to-above;
-                to-before = s .to-before pos;
-                inside = omega (arith, own-inside);
+                to-before = s .to-before (a .positive);
+                inside = omega (arith, own-inside (a .base) (a .most));
               }
 
               cross₄ : (b : ℕ) → b < w → cell l₄ (to + b) ≡ crossFrom o r f n b
-              cross₄ = rw (en, ef) (h₄ .row)
+              cross₄ = rw (a .next-is, a .first-is) (h₄ .row)
 
               top₄ : (b : ℕ) → b < w
                   → cell l₄ (2 * w + b) ≡ betterOf (betterOf (cell l₀ (2 * w + b)) (acrossFrom o n b)) (acrossFrom o f b)
               top₄ b h =
-                  h₄ .same (2 * w + b) (omega (arith, own-above)) (λ q. omega (arith, s .to-above))
-                  ∙ h₃ .same (2 * w + b) (λ q. omega (arith, own-above))
+                  h₄ .same (2 * w + b) (omega (arith, own-above a)) (λ q. omega (arith, s .to-above))
+                  ∙ h₃ .same (2 * w + b) (λ q. omega (arith, own-above a))
                   ∙ h₂ .top b h ∙ ap (λ c. betterOf c (acrossFrom o f b)) (h₁ .top b h)
 
               own₄ : (k : ℕ) → start w r ≤ k → k < start w r + 2 * w → cell l₄ k ≡ cell l₃ k
-              own₄ k p h = h₄ .same k h (λ q. omega (arith, s .to-before pos))
+              own₄ k p h = h₄ .same k h (λ q. omega (arith, s .to-before (a .positive)))
 
               pub spread-more : {l₅ : List ℕ} → Met (start w r) to w l₄ l₅ → Spread o r to w l₀ l₅ (1 + members + later)
               spread-more h₅ = record {
@@ -350,7 +330,9 @@ module _ {o : List ℕ} {r to w : ℕ} {l₀ : List ℕ} (s : Spreadable o r to 
                 top = λ b h.
                     h₅ .top b h ∙ ap₂ betterOf (top₄ b h) (cross₄ b h) ∙ shuffle _ _ _ _ ∙ ap (betterOf (cell l₀ (2 * w + b))) (sym (across-group b));
                 same = λ k p q g.
-                    h₅ .same k (p pos) (q pos) g ∙ h₄ .same k (omega (arith, p pos)) (q pos) ∙ h₃ .same k (λ e. omega (arith, p pos))
-                    ∙ h₂ .same k (λ e. omega (arith, first-gap, p pos)) (λ e d. omega (arith, p pos)) g ∙ below₁ k (omega (arith, p pos)) g;
+                    h₅ .same k (p (a .positive)) (q (a .positive)) g ∙ h₄ .same k (omega (arith, p (a .positive))) (q (a .positive))
+                    ∙ h₃ .same k (λ e. omega (arith, p (a .positive)))
+                    ∙ h₂ .same k (λ e. omega (arith, first-gap, p (a .positive))) (λ e d. omega (arith, p (a .positive))) g
+                    ∙ below₁ k (omega (arith, p (a .positive))) g;
                 records = omega (arith, records-here, h₁ .records, h₂ .records);
               }

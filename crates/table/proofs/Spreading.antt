@@ -9,7 +9,7 @@ use lib.Dec.{leb}
 use lib.ListN.{length}
 use borrow.Author.Tests.{le-ltb, ne-eqb}
 use Rattle.outline.specs.Lists.{pick}
-use Rattle.outline.specs.Outline.{size, first, branch, price}
+use Rattle.outline.specs.Outline.{first, branch, price}
 use Rattle.laws.specs.Candidate.{Value, nothingWorth, beats, Cand, none, some, betterOf, joinOf, oneAt}
 use Rattle.laws.proofs.Order.{value-path, better-none, better-comm, better-assoc}
 use Rattle.laws.proofs.Best.{From, this, from-better}
@@ -20,7 +20,8 @@ use Rattle.table.specs.Cells.{cell, diversityOf, costOf, codeOf}
 use Rattle.table.specs.Memory.{rowAt, Blank, Reads, Betters, Bettering}
 use Rattle.table.specs.Table.{IsTaxon, taxonWorth, Base, TaxonRow, TaxonJoins, ByTaxon, ByTaxonJoins}
 use Rattle.table.specs.Spread.{Running, Bettered, Pairable, TaxonSpreadable, TaxonSpread, Meets, Met, BySingle, ByPairs}
-use Rattle.table.proofs.Pushing.{gap, small-diversity, small-cost, small-code, base-kept, blank-none}
+use Rattle.table.proofs.Places.{base-kept, blank-none, front-inside}
+use Rattle.table.proofs.Pushing.{small-diversity, small-cost, small-code}
 use Rattle.table.proofs.TaxonRows.{join-same}
 
 -- ---- candidates
@@ -60,10 +61,6 @@ join-row-same v x y b e = rw e
 pub shuffle : (t n s c : Cand) → betterOf (betterOf (betterOf t n) s) c ≡ betterOf t (betterOf (betterOf s n) c)
 shuffle t n s c =
     ap (λ x. betterOf x c) (better-assoc t n s ∙ ap (betterOf t) (better-comm n s)) ∙ better-assoc t _ c
-
--- ---- the four rows before the records'
-pub front-inside : {o : List ℕ} {w : ℕ} {l : List ℕ} → Base o w l → 2 * (4 * w) ≤ length l
-front-inside {o} {w} base = omega (arith, base .long, gap w 0 (size o + 1) (omega arith))
 
 -- ---- the running optimum, and taxon r
 module _ {o : List ℕ} {w : ℕ} {l : List ℕ} (running : Running o w l) where

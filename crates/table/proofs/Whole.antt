@@ -20,14 +20,11 @@ use Rattle.table.specs.Cells.{cell}
 use Rattle.table.specs.Memory.{Written, Betters, Bettering}
 use Rattle.table.specs.Table.{start, Base, Ready, Done, Fillable, Filled, acrossFrom}
 use Rattle.table.specs.Spread.{Spreadable, Spread}
-use Rattle.table.proofs.Pushing.{gap, base-kept}
+use Rattle.table.proofs.Places.{base-kept, front-inside}
 
 module _ {o : List ℕ} {w : ℕ} {l₀ : List ℕ} (s : Fillable o w l₀) where
   table-inside : 2 * start w (size o + 1) ≤ length l₀
   table-inside = omega (arith, s .long)
-
-  pub front-inside : 2 * (4 * w) ≤ length l₀
-  front-inside = omega (arith, table-inside, gap w 0 (size o + 1) (omega arith))
 
   -- the rows of no set and of nothing
   module _ {l₁ l₂ : List ℕ} (h₁ : Written 0 0 w (λ b. none) l₀ l₁) (k₁ : length l₁ ≡ length l₀)
@@ -64,9 +61,9 @@ module _ {o : List ℕ} {w : ℕ} {l₀ : List ℕ} (s : Fillable o w l₀) wher
     module _ {l₃ : List ℕ} {at : ℕ} (h₃ : Done o 1 w (2 * w) w l₂ l₃ at) (k₃ : length l₃ ≡ length l₂) where
       pub betters-root : Betters l₃ (2 * w) w (2 * w) w
       betters-root = record {
-        inside = omega (arith, front-inside);
-        first = record { inside = omega (arith, front-inside); aside = inr (omega arith) };
-        second = record { inside = omega (arith, front-inside); aside = inl (omega arith) };
+        inside = omega (arith, front-inside base₂);
+        first = record { inside = omega (arith, front-inside base₂); aside = inr (omega arith) };
+        second = record { inside = omega (arith, front-inside base₂); aside = inl (omega arith) };
         blank = λ e. absurd (omega (arith, s .wide));
       }
 

@@ -2,21 +2,14 @@
 use mathlib.Core.Path.{_≡_, sym}
 use mathlib.Core.Bool.{true}
 use borrow.Author.Needs.{needs}
-use Rattle.choice.specs.Answer.{Call, isSelected}
+use Rattle.choice.specs.Answer.{Call, call as callOf, isSelected}
 use Rattle.choice.proofs.Answers.{selected-solvable, part-inside, part-long, part-solvable, solved-answered, refused-answered}
 use Rattle.choice.proofs.chooser.choose.Statement.{statement}
 use Rattle.choice.proofs.chooser.choose.Tie as tie
 
 -- the call
 abbrev call : tie.Start → Call
-call s = record {
-  outline = s .args .outline .now;
-  count = s .args .count;
-  way = s .args .way;
-  marks = s .args .marks .now;
-  curve = s .args .curve .now;
-  work = s .args .work .now;
-}
+call s = let a = s .args in callOf (a .outline .now) (a .count) (a .way) (a .marks .now) (a .curve .now) (a .work .now)
 
 abbrev start : tie.After-judge → tie.Start
 start c = c .before .before .before .before .before .before .before .before

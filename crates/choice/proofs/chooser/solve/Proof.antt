@@ -3,21 +3,14 @@ use mathlib.Core.Path.{_∙_, ap}
 use native.Mathlib.Omega.{arith}
 use lib.ListN.{replicate}
 use borrow.Author.Needs.{needs}
-use Rattle.choice.specs.Answer.{Call, diversityAt}
+use Rattle.choice.specs.Answer.{Call, call as callOf, diversityAt}
 use Rattle.choice.proofs.Solving.{alike-most, table-drawable, solved}
 use Rattle.choice.proofs.chooser.solve.Statement.{statement}
 use Rattle.choice.proofs.chooser.solve.Tie as tie
 
 -- the call
 abbrev call : tie.Start → Call
-call s = record {
-  outline = s .args .o .now;
-  count = s .args .count;
-  way = s .args .way;
-  marks = s .args .marks .now;
-  curve = s .args .curve .now;
-  work = s .args .work .now;
-}
+call s = let a = s .args in callOf (a .o .now) (a .count) (a .way) (a .marks .now) (a .curve .now) (a .work .now)
 
 -- the places, from the last backwards
 abbrev clearing : tie.After-marked → tie.After-clear

@@ -1,26 +1,19 @@
 -- `choice::judge::judge` meets its contract: the rows that passed leave the answer to the next one.
 use mathlib.Core.Path.{_≡_}
-use mathlib.Core.Bool.{false}
+use mathlib.Core.Bool.{Bool, true, false, _&&_, not}
 use lib.Dec.{eqb, ltb}
 use borrow.Author.Needs.{needs}
 use borrow.Author.Tests.{lt-ltb, le-ltb}
 use Rattle.outline.specs.Refusals.{Told, told, _▸_, row, sizeRows, recordRows}
 use Rattle.outline.proofs.Refusals.{refusal-not-zero}
 use Rattle.outline.proofs.Kept.{sizes-kept}
-use Rattle.choice.specs.Answer.{Call, mostCount, tooShort, judged}
+use Rattle.choice.specs.Answer.{Call, call as callOf, mostCount, tooShort, judged}
 use Rattle.choice.proofs.judge.judge.Statement.{statement}
 use Rattle.choice.proofs.judge.judge.Tie as tie
 
 -- the call
 abbrev call : tie.Start → Call
-call s = record {
-  outline = s .args .outline .now;
-  count = s .args .count;
-  way = s .args .way;
-  marks = s .args .marks .now;
-  curve = s .args .curve .now;
-  work = s .args .work .now;
-}
+call s = let a = s .args in callOf (a .outline .now) (a .count) (a .way) (a .marks .now) (a .curve .now) (a .work .now)
 
 -- the call, at each place
 abbrev at2 : tie.After-check-size → Call
@@ -28,6 +21,13 @@ at2 c = call (c .before .before .before .before .before .before)
 
 abbrev at5 : tie.After-check-records → Call
 at5 c = at2 (c .before .before .before .before)
+
+-- rows 1 and 4, by their conditions
+abbrev unknownWay : Call → Bool
+unknownWay c = not (eqb (c .way) 0) && not (eqb (c .way) 1)
+
+abbrev tooLarge : Call → Bool
+tooLarge c = ltb mostCount (c .count)
 
 -- the rows that are left after row 8, 4, 3 and 1
 abbrev after8 : Call → Told
@@ -37,19 +37,19 @@ abbrev after4 : Call → Told
 after4 c = recordRows (c .outline) ▸ after8 c
 
 abbrev after3 : Call → Told
-after3 c = row 4 (ltb mostCount (c .count)) ▸ after4 c
+after3 c = row 4 (tooLarge c) ▸ after4 c
 
 abbrev after1 : Call → Told
 after1 c = sizeRows (c .outline) ▸ after3 c
 
 returns : tie.Need-returns
 unfolding judged
-returns c = simp (c .if1 .taken)
+returns c = let holds : unknownWay (call (c .before .before .before .before .before)) ≡ true = c .if1 .taken in simp holds
 
 -- row 1 passed
 passed1 : (c : tie.After-check-size) → after1 (at2 c) ≡ judged (at2 c)
 unfolding judged
-passed1 c = simp (c .before .if1 .left)
+passed1 c = let fails : unknownWay (at2 c) ≡ false = c .before .if1 .left in simp fails
 
 returns-2 : tie.Need-returns-2
 returns-2 c =
@@ -62,11 +62,13 @@ passed3 : (c : tie.After-enum-told2) → after3 (at2 (c .before .before)) ≡ ju
 passed3 c = let size = c .before .before in simp (← size .check-size .ensures, c .enum-told2 .given .1) at (passed1 size)
 
 returns-3 : tie.Need-returns-3
-returns-3 c = simp (lt-ltb _ _ (c .if2 .taken)) at (passed3 (c .before))
+returns-3 c =
+    let holds : tooLarge (at2 (c .before .before .before)) ≡ true = lt-ltb _ _ (c .if2 .taken) in
+    simp holds at (passed3 (c .before))
 
 -- and row 4
 passed4 : (c : tie.After-check-records) → after4 (at5 c) ≡ judged (at5 c)
-passed4 c = simp (le-ltb _ _ (c .before .if2 .left)) at (passed3 (c .before .before))
+passed4 c = let fails : tooLarge (at5 c) ≡ false = le-ltb _ _ (c .before .if2 .left) in simp fails at (passed3 (c .before .before))
 
 returns-4 : tie.Need-returns-4
 returns-4 c =

@@ -1,14 +1,18 @@
 -- `table::push::push` meets its contract. The measure is how many records are left. Each call is a step of proofs/Pushing, which
 -- shows what the next call asks, and in the end the contract.
-use Prim.Native.Nat.{ℕ, _<_}
+use Prim.Native.Nat.{ℕ, _+_, _*_, _<_, _≤_}
 use mathlib.Core.Path.{refl, _∙_}
 use native.Mathlib.Omega.{arith}
+use lib.ListN.{length}
 use borrow.Author.Needs.{needs}
 use borrow.Fn.Kinds.{In}
 use borrow.Fn.PlainCycle.{Measures, is, falls, and}
 use Rattle.outline.specs.Inner.{IsRecord}
-use Rattle.table.proofs.Pushing.{left, left-less, done-none, to-next, to-first, own-inside, ready-next, is-taxon, none-row₁, joins-taxon}
-use Rattle.table.proofs.Pushing.{done-taxon, betters-follow, ready-first, chargeable, done-group}
+use Rattle.outline.specs.Outline.{first}
+use Rattle.table.specs.Table.{start}
+use Rattle.table.proofs.Places.{own-inside, At, to-next, to-first}
+use Rattle.table.proofs.Pushing.{left, left-less, done-none, ready-next, is-taxon, none-row₁, joins-taxon, done-taxon}
+use Rattle.table.proofs.Pushing.{betters-follow, ready-first, chargeable, done-group}
 use Rattle.table.proofs.push.push.Reads as push
 use Rattle.table.proofs.push.push.Kinds as push-kinds
 use Rattle.table.proofs.push.+push.Lts-push as push-lts
@@ -53,40 +57,72 @@ module _ (t : ℕ) where
   abbrev Else1 : Type 0
   Else1 = push-lts.Else1 (calls t) (push-at t) push.Post
 
-  abbrev start : Else1 → push-lts.Start (calls t) (push-at t) push.Post
-  start c = c .before .before .before
+  abbrev After-next-of : Type 0
+  After-next-of = push-lts.After-next-of (calls t) (push-at t) push.Post
+
+  abbrev After-first-of : Type 0
+  After-first-of = push-lts.After-first-of (calls t) (push-at t) push.Post
+
+  abbrev After-push : Type 0
+  After-push = push-lts.After-push (calls t) (push-at t) push.Post
+
+  abbrev entry : Else1 → push-lts.Start (calls t) (push-at t) push.Post
+  entry c = c .before .before .before
 
   -- record r is not 0
-  pos : (c : Else1) → 0 < start c .args .r
+  pos : (c : Else1) → 0 < entry c .args .r
   pos c = omega arith
 
-  record-r : (c : Else1) → IsRecord (start c .args .o .now) (start c .args .r)
-  record-r c = record { low = pos c; high = start c .pre .1 .most }
+  record-r : (c : Else1) → IsRecord (entry c .args .o .now) (entry c .args .r)
+  record-r c = record { low = pos c; high = entry c .pre .1 .most }
+
+  own : (c : Else1) → 2 * (start (entry c .args .width) (entry c .args .r) + 2 * entry c .args .width) ≤ length (entry c .args .work .now)
+  own c = own-inside (entry c .pre .1 .base) (entry c .pre .1 .most)
+
+  -- where the links of r are read
+  at-next : (n : After-next-of) →
+      let s = entry (n .before) .args in
+      At (s .o .now) (s .r) (s .width) (s .work .now) (n .next-of .result) (first (s .o .now) (s .r))
+  at-next n =
+      let h = entry (n .before) .pre .1 in
+      record { base = h .base; positive = pos (n .before); most = h .most; next-is = n .next-of .ensures; first-is = refl }
+
+  abbrev rest : After-first-of → After-push
+  rest f = f .before .before .before
+
+  abbrev opened : After-first-of → push-lts.Start (calls t) (push-at t) push.Post
+  opened f = entry (rest f .before .before .before)
+
+  at : (f : After-first-of) →
+      let s = opened f .args in
+      At (s .o .now) (s .r) (s .width) (s .work .now) (rest f .before .before .next-of .result) (f .first-of .result)
+  at f =
+      let a = at-next (rest f .before .before) in
+      record { base = a .base; positive = a .positive; most = a .most; next-is = a .next-is; first-is = f .first-of .ensures }
 
   returns : push-lts.Need-returns (calls t) (push-at t) push.Post
   returns c = rw (c .if1 .taken) (done-none _ _ _ _ (c .before .before .before .pre .1 .base))
 
   add-own : push-lts.Need-add-own (calls t) (push-at t) push.Post
-  add-own c = omega (arith, start c .pre .1 .most, start c .pre .1 .base .kept .size-most)
+  add-own c = omega (arith, entry c .pre .1 .most, entry c .pre .1 .base .kept .size-most)
 
   mul-own : push-lts.Need-mul-own (calls t) (push-at t) push.Post
-  mul-own c = omega (arith, own-inside (start c .pre .1) (pos c) refl refl)
+  mul-own c = omega (arith, own c)
 
   mul-own-2 : push-lts.Need-mul-own-2 (calls t) (push-at t) push.Post
-  mul-own-2 c = omega (arith, own-inside (start c .pre .1) (pos c) refl refl)
+  mul-own-2 c = omega (arith, own c)
 
   next-of-requires : push-lts.Need-next-of-requires (calls t) (push-at t) push.Post
   next-of-requires c κs = record-r c
 
   add-push : push-lts.Need-add-push (calls t) (push-at t) push.Post
-  add-push c = omega (arith, own-inside (start (c .before) .pre .1) (pos (c .before)) refl refl)
+  add-push c = omega (arith, own (c .before))
 
   push-requires : push-lts.Need-push-requires (calls t) (push-at t) push.Post
   push-requires c κs =
       let n = c .before in
-      let h = start (n .before) .pre in
-      let p = pos (n .before) in
-      (omega (arith, left-less _ _ _ p (h .1 .most) (to-next (h .1) p (n .next-of .ensures) refl), h .0), ready-next (h .1) p (n .next-of .ensures) refl)
+      let h = entry (n .before) .pre in
+      (omega (arith, left-less _ _ _ (pos (n .before)) (h .1 .most) (to-next (at-next n)), h .0), ready-next (h .1) (at-next n))
 
   first-of-requires : push-lts.Need-first-of-requires (calls t) (push-at t) push.Post
   first-of-requires c κs = record-r (c .before .before .before .before .before)
@@ -94,57 +130,43 @@ module _ (t : ℕ) where
   taxon-row-requires : push-lts.Need-taxon-row-requires (calls t) (push-at t) push.Post
   taxon-row-requires c κs =
       let f = c .before .before in
-      let d = f .before .before .before in
-      let n = d .before .before in
-      let h = start (n .before) .pre .1 in
       let z = c .before .if2 .taken in (
-        is-taxon h (pos (n .before)) (n .next-of .ensures) (f .first-of .ensures) (d .push .ensures) (d .push .kept .1 .1 .1 .1 .1 .0) z,
+        is-taxon (opened f .pre .1) (at f) (rest f .push .ensures) (rest f .push .kept .1 .1 .1 .1 .1 .0) z,
         (
-          (none-row₁ h (pos (n .before)) (n .next-of .ensures) (f .first-of .ensures) (d .push .ensures) (d .push .kept .1 .1 .1 .1 .1 .0) z, h .to-above),
-          joins-taxon h (pos (n .before)) (n .next-of .ensures) (f .first-of .ensures) (d .push .ensures) (d .push .kept .1 .1 .1 .1 .1 .0) z,
+          (none-row₁ (opened f .pre .1) (at f) (rest f .push .ensures) (rest f .push .kept .1 .1 .1 .1 .1 .0) z, opened f .pre .1 .to-above),
+          joins-taxon (opened f .pre .1) (at f) (rest f .push .ensures) (rest f .push .kept .1 .1 .1 .1 .1 .0) z,
         ),
       )
 
   same-length : push-lts.Need-same-length (calls t) (push-at t) push.Post
   same-length c =
       let r = c .before .before in
-      r .taxon-row .kept .1 .1 .1 .1 .1 .1 .0 ∙ r .before .before .before .before .before .before .push .kept .1 .1 .1 .1 .1 .0
+      r .taxon-row .kept .1 .1 .1 .1 .1 .1 .0 ∙ rest (r .before .before .before) .push .kept .1 .1 .1 .1 .1 .0
 
   returns-2 : push-lts.Need-returns-2 (calls t) (push-at t) push.Post
   returns-2 c =
       let r = c .before .before in
       let f = r .before .before .before in
-      let d = f .before .before .before in
-      let n = d .before .before in
-      let h = start (n .before) .pre .1 in
-      done-taxon h (pos (n .before)) (n .next-of .ensures) (f .first-of .ensures) (d .push .ensures) (d .push .kept .1 .1 .1 .1 .1 .0)
-      (r .before .before .if2 .taken) (r .taxon-row .ensures)
+      done-taxon (opened f .pre .1) (at f) (rest f .push .ensures) (rest f .push .kept .1 .1 .1 .1 .1 .0) (r .before .before .if2 .taken)
+      (r .taxon-row .ensures)
 
   follow-row-requires : push-lts.Need-follow-row-requires (calls t) (push-at t) push.Post
   follow-row-requires c κs =
       let f = c .before .before in
-      let d = f .before .before .before in
-      let n = d .before .before in
-      let h = start (n .before) .pre .1 in
-      betters-follow h (pos (n .before)) (n .next-of .ensures) (f .first-of .ensures) (d .push .ensures) (d .push .kept .1 .1 .1 .1 .1 .0)
+      betters-follow (opened f .pre .1) (at f) (rest f .push .ensures) (rest f .push .kept .1 .1 .1 .1 .1 .0)
 
   push-requires-2 : push-lts.Need-push-requires-2 (calls t) (push-at t) push.Post
   push-requires-2 c κs =
       let w = c .before .before .before in
       let f = w .before .before .before in
-      let d = f .before .before .before in
-      let n = d .before .before in
-      let h = start (n .before) .pre in
-      let p = pos (n .before) in (
-        omega (arith, left-less _ _ _ p (h .1 .most) (to-first (h .1) p (n .next-of .ensures) (f .first-of .ensures)), h .0),
-        ready-first (h .1) p (n .next-of .ensures) (f .first-of .ensures) (d .push .ensures) (d .push .kept .1 .1 .1 .1 .1 .0)
-            (w .before .before .if2 .left) (w .follow-row .ensures) (w .follow-row .kept .0),
+      let h = opened f .pre in (
+        omega (arith, left-less _ _ _ (at f .positive) (h .1 .most) (to-first (at f)), h .0),
+        ready-first (opened f .pre .1) (at f) (rest f .push .ensures) (rest f .push .kept .1 .1 .1 .1 .1 .0) (w .before .before .if2 .left)
+            (w .follow-row .ensures) (w .follow-row .kept .0),
       )
 
   branch-of-requires : push-lts.Need-branch-of-requires (calls t) (push-at t) push.Post
-  branch-of-requires c κs =
-      let f = c .before .before .before .before .before .before .before .before .before in
-      record-r (f .before .before .before .before .before .before)
+  branch-of-requires c κs = record-r (rest (c .before .before .before .before .before .before .before .before .before) .before .before .before)
 
   charge-row-requires : push-lts.Need-charge-row-requires (calls t) (push-at t) push.Post
   charge-row-requires c κs =
@@ -152,20 +174,17 @@ module _ (t : ℕ) where
       let m = b .before .before .before in
       let w = m .before .before .before .before in
       let f = w .before .before .before in
-      let d = f .before .before .before in
-      let n = d .before .before in
-      let h = start (n .before) .pre .1 in
       rw (b .branch-of .ensures)
-      (chargeable h (pos (n .before)) (n .next-of .ensures) (f .first-of .ensures) (d .push .ensures) (d .push .kept .1 .1 .1 .1 .1 .0)
-      (w .before .before .if2 .left) (w .follow-row .ensures) (w .follow-row .kept .0) (m .push2 .ensures) (m .push2 .kept .1 .1 .1 .1 .1 .0))
+      (chargeable (opened f .pre .1) (at f) (rest f .push .ensures) (rest f .push .kept .1 .1 .1 .1 .1 .0) (w .before .before .if2 .left)
+      (w .follow-row .ensures) (w .follow-row .kept .0) (m .push2 .ensures) (m .push2 .kept .1 .1 .1 .1 .1 .0))
 
   same-length-2 : push-lts.Need-same-length-2 (calls t) (push-at t) push.Post
   same-length-2 c =
       let r = c .before .before in
       let m = r .before .before .before .before .before in
       let w = m .before .before .before .before in
-      let d = w .before .before .before .before .before .before in
-      r .charge-row .kept .0 ∙ m .push2 .kept .1 .1 .1 .1 .1 .0 ∙ w .follow-row .kept .0 ∙ d .push .kept .1 .1 .1 .1 .1 .0
+      r .charge-row .kept .0 ∙ m .push2 .kept .1 .1 .1 .1 .1 .0 ∙ w .follow-row .kept .0
+      ∙ rest (w .before .before .before) .push .kept .1 .1 .1 .1 .1 .0
 
   returns-3 : push-lts.Need-returns-3 (calls t) (push-at t) push.Post
   returns-3 c =
@@ -174,11 +193,8 @@ module _ (t : ℕ) where
       let m = b .before .before .before in
       let w = m .before .before .before .before in
       let f = w .before .before .before in
-      let d = f .before .before .before in
-      let n = d .before .before in
-      let h = start (n .before) .pre .1 in
-      done-group h (pos (n .before)) (n .next-of .ensures) (f .first-of .ensures) (d .push .ensures) (d .push .kept .1 .1 .1 .1 .1 .0)
-      (w .before .before .if2 .left) (w .follow-row .ensures) (w .follow-row .kept .0) (m .push2 .ensures) (m .push2 .kept .1 .1 .1 .1 .1 .0)
+      done-group (opened f .pre .1) (at f) (rest f .push .ensures) (rest f .push .kept .1 .1 .1 .1 .1 .0) (w .before .before .if2 .left)
+      (w .follow-row .ensures) (w .follow-row .kept .0) (m .push2 .ensures) (m .push2 .kept .1 .1 .1 .1 .1 .0)
       (rw (b .branch-of .ensures) at (r .charge-row .ensures))
 
 pub +push-spec : {M : Type 1} → statement M

@@ -1,15 +1,20 @@
 -- `table::spread::spread` meets its contract. The measure is how many records are left. Each call is a step of proofs/SpreadSteps,
 -- which shows what the next call asks, and in the end the contract.
-use Prim.Native.Nat.{ℕ, _<_}
-use mathlib.Core.Path.{refl, _∙_}
+use Prim.Native.Nat.{ℕ, _+_, _*_, _<_, _≤_}
+use mathlib.Core.Path.{_≡_, refl, _∙_}
 use native.Mathlib.Omega.{arith}
+use lib.ListN.{length}
 use borrow.Author.Needs.{needs}
 use borrow.Fn.Kinds.{In}
 use borrow.Fn.PlainCycle.{Measures, is, falls, and}
 use Rattle.outline.specs.Inner.{IsRecord}
+use Rattle.outline.specs.Outline.{first}
+use Rattle.laws.specs.Forest.{tree}
+use Rattle.table.specs.Spread.{recordsIn}
+use Rattle.table.specs.Table.{start}
+use Rattle.table.proofs.Places.{own-inside, At, to-next, to-first}
 use Rattle.table.proofs.Pushing.{left, left-less}
-use Rattle.table.proofs.SpreadSteps.{records-most, spread-none, to-next, to-first, own-inside, spreadable-next, taxon-spreadable}
-use Rattle.table.proofs.SpreadSteps.{spread-taxon-done}
+use Rattle.table.proofs.SpreadSteps.{records-most, spread-none, spreadable-next, taxon-spreadable, spread-taxon-done}
 use Rattle.table.proofs.SpreadSteps.{spreadable-last, chargeable-last, spread-last, spreadable-first, chargeable-first, crossable, meets}
 use Rattle.table.proofs.SpreadSteps.{spread-more}
 use Rattle.table.proofs.spread.spread.Reads as spread
@@ -62,99 +67,123 @@ module _ (t : ℕ) where
   abbrev Else1 : Type 0
   Else1 = spread-lts.Else1 (calls t) (spread-at t) spread.Post
 
-  abbrev start : Else1 → spread-lts.Start (calls t) (spread-at t) spread.Post
-  start c = c .before .before .before
+  abbrev After-next-of : Type 0
+  After-next-of = spread-lts.After-next-of (calls t) (spread-at t) spread.Post
+
+  abbrev After-first-of : Type 0
+  After-first-of = spread-lts.After-first-of (calls t) (spread-at t) spread.Post
+
+  abbrev After-spread : Type 0
+  After-spread = spread-lts.After-spread (calls t) (spread-at t) spread.Post
+
+  abbrev entry : Else1 → spread-lts.Start (calls t) (spread-at t) spread.Post
+  entry c = c .before .before .before
 
   -- record r is not 0
-  pos : (c : Else1) → 0 < start c .args .r
+  pos : (c : Else1) → 0 < entry c .args .r
   pos c = omega arith
 
-  record-r : (c : Else1) → IsRecord (start c .args .o .now) (start c .args .r)
-  record-r c = record { low = pos c; high = start c .pre .1 .most }
+  record-r : (c : Else1) → IsRecord (entry c .args .o .now) (entry c .args .r)
+  record-r c = record { low = pos c; high = entry c .pre .1 .most }
+
+  own : (c : Else1) → 2 * (start (entry c .args .width) (entry c .args .r) + 2 * entry c .args .width) ≤ length (entry c .args .work .now)
+  own c = own-inside (entry c .pre .1 .running .base) (entry c .pre .1 .most)
+
+  -- where the links of r are read
+  at-next : (n : After-next-of) →
+      let s = entry (n .before) .args in
+      At (s .o .now) (s .r) (s .width) (s .work .now) (n .next-of .result) (first (s .o .now) (s .r))
+  at-next n =
+      let h = entry (n .before) .pre .1 in
+      record { base = h .running .base; positive = pos (n .before); most = h .most; next-is = n .next-of .ensures; first-is = refl }
+
+  abbrev rest : After-first-of → After-spread
+  rest f = f .before .before .before
+
+  abbrev opened : After-first-of → spread-lts.Start (calls t) (spread-at t) spread.Post
+  opened f = entry (rest f .before .before .before)
+
+  at : (f : After-first-of) →
+      let s = opened f .args in
+      At (s .o .now) (s .r) (s .width) (s .work .now) (rest f .before .before .next-of .result) (f .first-of .result)
+  at f =
+      let a = at-next (rest f .before .before) in
+      record { base = a .base; positive = a .positive; most = a .most; next-is = a .next-is; first-is = f .first-of .ensures }
+
+  -- how many records the rest of the chain has, and the members
+  later-most : (f : After-first-of) → rest f .spread .result ≤ 127
+  later-most f =
+      let k = at f .base .kept in
+      omega (arith, rest f .spread .ensures .records, records-most _ k _ (to-next (at f) .most), k .size-most)
+
+  members-most : (f : After-first-of) {count : ℕ} → count ≡ recordsIn (tree (opened f .args .o .now) (f .first-of .result)) → count ≤ 127
+  members-most f e =
+      let k = at f .base .kept in
+      omega (arith, e, records-most _ k _ (to-first (at f) .most), k .size-most)
 
   returns : spread-lts.Need-returns (calls t) (spread-at t) spread.Post
   returns c = rw (c .if1 .taken) (spread-none (rw (c .if1 .taken) at (c .before .before .before .pre .1)))
 
   add-own : spread-lts.Need-add-own (calls t) (spread-at t) spread.Post
-  add-own c = omega (arith, start c .pre .1 .most, start c .pre .1 .running .base .kept .size-most)
+  add-own c = omega (arith, entry c .pre .1 .most, entry c .pre .1 .running .base .kept .size-most)
 
   mul-own : spread-lts.Need-mul-own (calls t) (spread-at t) spread.Post
-  mul-own c = omega (arith, own-inside (start c .pre .1) (pos c) refl refl)
+  mul-own c = omega (arith, own c)
 
   mul-own-2 : spread-lts.Need-mul-own-2 (calls t) (spread-at t) spread.Post
-  mul-own-2 c = omega (arith, own-inside (start c .pre .1) (pos c) refl refl)
+  mul-own-2 c = omega (arith, own c)
 
   next-of-requires : spread-lts.Need-next-of-requires (calls t) (spread-at t) spread.Post
   next-of-requires c κs = record-r c
 
   add-spread : spread-lts.Need-add-spread (calls t) (spread-at t) spread.Post
-  add-spread c = omega (arith, own-inside (start (c .before) .pre .1) (pos (c .before)) refl refl)
+  add-spread c = omega (arith, own (c .before))
 
   spread-requires : spread-lts.Need-spread-requires (calls t) (spread-at t) spread.Post
   spread-requires c κs =
       let n = c .before in
-      let h = start (n .before) .pre in
-      let p = pos (n .before) in
-      (omega (arith, left-less _ _ _ p (h .1 .most) (to-next (h .1) p (n .next-of .ensures) refl), h .0), spreadable-next (h .1) p (n .next-of .ensures) refl)
+      let h = entry (n .before) .pre in
+      (omega (arith, left-less _ _ _ (pos (n .before)) (h .1 .most) (to-next (at-next n)), h .0), spreadable-next (h .1) (at-next n))
 
   first-of-requires : spread-lts.Need-first-of-requires (calls t) (spread-at t) spread.Post
   first-of-requires c κs = record-r (c .before .before .before .before .before)
 
   add-rest-at : spread-lts.Need-add-rest-at (calls t) (spread-at t) spread.Post
-  add-rest-at c = omega (arith, own-inside (start (c .before .before .before .before .before .before .before) .pre .1) (pos (c .before .before .before .before .before .before .before)) refl refl)
+  add-rest-at c = omega (arith, own (rest (c .before) .before .before .before))
 
   spread-taxon-requires : spread-lts.Need-spread-taxon-requires (calls t) (spread-at t) spread.Post
   spread-taxon-requires c κs =
       let a = c .before in
       let f = a .before .before in
-      let d = f .before .before .before in
-      let n = d .before .before in
-      let e = n .before in
-      let h = start e .pre .1 in
-      taxon-spreadable h (pos e) (n .next-of .ensures) (f .first-of .ensures) (d .spread .ensures) (d .spread .kept .1 .1 .1 .1 .0)
-      (a .before .if2 .taken) (a .rest-at .ensures)
+      taxon-spreadable (opened f .pre .1) (at f) (rest f .spread .ensures) (rest f .spread .kept .1 .1 .1 .1 .0) (a .before .if2 .taken)
+      (a .rest-at .ensures)
 
   add-result : spread-lts.Need-add-result (calls t) (spread-at t) spread.Post
-  add-result c =
-      let f = c .before .before .before .before .before .before in
-      let d = f .before .before .before in
-      let n = d .before .before in
-      let e = n .before in
-      let h = start e .pre .1 in
-      omega
-      (arith, d .spread .ensures .records, records-most _ (h .running .base .kept) (n .next-of .result) (to-next h (pos e) (n .next-of .ensures) refl .most), h .running .base .kept .size-most)
+  add-result c = omega (arith, later-most (c .before .before .before .before .before .before))
 
   same-length : spread-lts.Need-same-length (calls t) (spread-at t) spread.Post
   same-length c =
       let r = c .before .before in
-      r .spread-taxon .kept .1 .1 .1 .1 .1 .0 ∙ r .before .before .before .before .before .before .before .spread .kept .1 .1 .1 .1 .0
+      r .spread-taxon .kept .1 .1 .1 .1 .1 .0 ∙ rest (r .before .before .before .before) .spread .kept .1 .1 .1 .1 .0
 
   returns-2 : spread-lts.Need-returns-2 (calls t) (spread-at t) spread.Post
   returns-2 c =
       let r = c .before .before in
       let a = r .before .before in
       let f = a .before .before in
-      let d = f .before .before .before in
-      let n = d .before .before in
-      let e = n .before in
-      let h = start e .pre .1 in
-      spread-taxon-done h (pos e) (n .next-of .ensures) (f .first-of .ensures) (d .spread .ensures) (d .spread .kept .1 .1 .1 .1 .0)
-      (a .before .if2 .taken) (a .rest-at .ensures) (r .spread-taxon .ensures)
+      spread-taxon-done (opened f .pre .1) (at f) (rest f .spread .ensures) (rest f .spread .kept .1 .1 .1 .1 .0) (a .before .if2 .taken)
+      (a .rest-at .ensures) (r .spread-taxon .ensures)
 
   branch-of-requires : spread-lts.Need-branch-of-requires (calls t) (spread-at t) spread.Post
-  branch-of-requires c κs = record-r (c .before .before .before .before .before .before .before)
+  branch-of-requires c κs = record-r (rest (c .before) .before .before .before)
 
   spread-requires-2 : spread-lts.Need-spread-requires-2 (calls t) (spread-at t) spread.Post
   spread-requires-2 c κs =
       let b = c .before .before in
-      let f = b .before .before in
-      let d = f .before .before .before in
-      let n = d .before .before in
-      let e = n .before in
-      let h = start e .pre .1 in (
-        omega (arith, left-less _ _ _ (pos e) (h .most) (to-first h (pos e) (n .next-of .ensures) (f .first-of .ensures)), start e .pre .0),
-        spreadable-last h (pos e) (n .next-of .ensures) (f .first-of .ensures) (d .spread .ensures) (d .spread .kept .1 .1 .1 .1 .0)
-            (b .before .if2 .left) (c .before .if3 .taken),
+      let f = b .before .before in (
+        omega (arith, left-less _ _ _ (at f .positive) (at f .most) (to-first (at f)), opened f .pre .0),
+        spreadable-last (opened f .pre .1) (at f) (rest f .spread .ensures) (rest f .spread .kept .1 .1 .1 .1 .0) (b .before .if2 .left)
+            (c .before .if3 .taken),
       )
 
   charge-row-requires : spread-lts.Need-charge-row-requires (calls t) (spread-at t) spread.Post
@@ -162,32 +191,20 @@ module _ (t : ℕ) where
       let m = c .before .before .before in
       let b = m .before .before .before in
       let f = b .before .before in
-      let d = f .before .before .before in
-      let n = d .before .before in
-      let e = n .before in
-      let h = start e .pre .1 in
       rw (b .branch-of .ensures)
-      (chargeable-last h (pos e) (n .next-of .ensures) (f .first-of .ensures) (d .spread .ensures) (d .spread .kept .1 .1 .1 .1 .0) (b .before .if2 .left) (m .before .before .if3 .taken)
-      (m .spread2 .ensures) (m .spread2 .kept .1 .1 .1 .1 .0))
+      (chargeable-last (opened f .pre .1) (at f) (rest f .spread .ensures) (rest f .spread .kept .1 .1 .1 .1 .0) (b .before .if2 .left)
+      (m .before .before .if3 .taken) (m .spread2 .ensures) (m .spread2 .kept .1 .1 .1 .1 .0))
 
   add-result-2 : spread-lts.Need-add-result-2 (calls t) (spread-at t) spread.Post
   add-result-2 c =
       let m = c .before .before .before .before .before .before in
-      let b = m .before .before .before in
-      let f = b .before .before in
-      let d = f .before .before .before in
-      let n = d .before .before in
-      let e = n .before in
-      let h = start e .pre .1 in
-      omega
-      (arith, m .spread2 .ensures .records, records-most _ (h .running .base .kept) (f .first-of .result) (to-first h (pos e) refl (f .first-of .ensures) .most), h .running .base .kept .size-most)
+      omega (arith, members-most (m .before .before .before .before .before) (m .spread2 .ensures .records))
 
   same-length-2 : spread-lts.Need-same-length-2 (calls t) (spread-at t) spread.Post
   same-length-2 c =
       let r = c .before .before in
       let m = r .before .before .before .before in
-      r .charge-row .kept .0 ∙ m .spread2 .kept .1 .1 .1 .1 .0
-      ∙ m .before .before .before .before .before .before .before .before .spread .kept .1 .1 .1 .1 .0
+      r .charge-row .kept .0 ∙ m .spread2 .kept .1 .1 .1 .1 .0 ∙ rest (m .before .before .before .before .before) .spread .kept .1 .1 .1 .1 .0
 
   returns-3 : spread-lts.Need-returns-3 (calls t) (spread-at t) spread.Post
   returns-3 c =
@@ -195,25 +212,16 @@ module _ (t : ℕ) where
       let m = r .before .before .before .before in
       let b = m .before .before .before in
       let f = b .before .before in
-      let d = f .before .before .before in
-      let n = d .before .before in
-      let e = n .before in
-      let h = start e .pre .1 in
-      spread-last h (pos e) (n .next-of .ensures) (f .first-of .ensures) (d .spread .ensures) (d .spread .kept .1 .1 .1 .1 .0)
-      (b .before .if2 .left) (m .before .before .if3 .taken)
-      (m .spread2 .ensures) (m .spread2 .kept .1 .1 .1 .1 .0) (rw (b .branch-of .ensures) at (r .charge-row .ensures))
+      spread-last (opened f .pre .1) (at f) (rest f .spread .ensures) (rest f .spread .kept .1 .1 .1 .1 .0) (b .before .if2 .left)
+      (m .before .before .if3 .taken) (m .spread2 .ensures) (m .spread2 .kept .1 .1 .1 .1 .0) (rw (b .branch-of .ensures) at (r .charge-row .ensures))
 
   spread-requires-3 : spread-lts.Need-spread-requires-3 (calls t) (spread-at t) spread.Post
   spread-requires-3 c κs =
       let b = c .before .before in
-      let f = b .before .before in
-      let d = f .before .before .before in
-      let n = d .before .before in
-      let e = n .before in
-      let h = start e .pre .1 in (
-        omega (arith, left-less _ _ _ (pos e) (h .most) (to-first h (pos e) (n .next-of .ensures) (f .first-of .ensures)), start e .pre .0),
-        spreadable-first h (pos e) (n .next-of .ensures) (f .first-of .ensures) (d .spread .ensures) (d .spread .kept .1 .1 .1 .1 .0)
-            (b .before .if2 .left) (c .before .if3 .left),
+      let f = b .before .before in (
+        omega (arith, left-less _ _ _ (at f .positive) (at f .most) (to-first (at f)), opened f .pre .0),
+        spreadable-first (opened f .pre .1) (at f) (rest f .spread .ensures) (rest f .spread .kept .1 .1 .1 .1 .0) (b .before .if2 .left)
+            (c .before .if3 .left),
       )
 
   charge-row-requires-2 : spread-lts.Need-charge-row-requires-2 (calls t) (spread-at t) spread.Post
@@ -221,13 +229,9 @@ module _ (t : ℕ) where
       let m = c .before .before .before in
       let b = m .before .before .before in
       let f = b .before .before in
-      let d = f .before .before .before in
-      let n = d .before .before in
-      let e = n .before in
-      let h = start e .pre .1 in
       rw (b .branch-of .ensures)
-      (chargeable-first h (pos e) (n .next-of .ensures) (f .first-of .ensures) (d .spread .ensures) (d .spread .kept .1 .1 .1 .1 .0) (b .before .if2 .left) (m .before .before .if3 .left)
-      (m .spread3 .ensures) (m .spread3 .kept .1 .1 .1 .1 .0))
+      (chargeable-first (opened f .pre .1) (at f) (rest f .spread .ensures) (rest f .spread .kept .1 .1 .1 .1 .0) (b .before .if2 .left)
+      (m .before .before .if3 .left) (m .spread3 .ensures) (m .spread3 .kept .1 .1 .1 .1 .0))
 
   cross-requires : spread-lts.Need-cross-requires (calls t) (spread-at t) spread.Post
   cross-requires c κs =
@@ -235,13 +239,8 @@ module _ (t : ℕ) where
       let m = g .before .before .before .before in
       let b = m .before .before .before in
       let f = b .before .before in
-      let d = f .before .before .before in
-      let n = d .before .before in
-      let e = n .before in
-      let h = start e .pre .1 in
-      crossable h (pos e) (n .next-of .ensures) (f .first-of .ensures) (d .spread .ensures) (d .spread .kept .1 .1 .1 .1 .0)
-      (b .before .if2 .left) (m .before .before .if3 .left)
-      (m .spread3 .ensures) (m .spread3 .kept .1 .1 .1 .1 .0)
+      crossable (opened f .pre .1) (at f) (rest f .spread .ensures) (rest f .spread .kept .1 .1 .1 .1 .0) (b .before .if2 .left)
+      (m .before .before .if3 .left) (m .spread3 .ensures) (m .spread3 .kept .1 .1 .1 .1 .0)
       (rw (b .branch-of .ensures) at (g .charge-row2 .ensures)) (g .charge-row2 .kept .0)
 
   meet-requires : spread-lts.Need-meet-requires (calls t) (spread-at t) spread.Post
@@ -251,56 +250,32 @@ module _ (t : ℕ) where
       let m = g .before .before .before .before in
       let b = m .before .before .before in
       let f = b .before .before in
-      let d = f .before .before .before in
-      let n = d .before .before in
-      let e = n .before in
-      let h = start e .pre .1 in
-      meets h (pos e) (n .next-of .ensures) (f .first-of .ensures) (d .spread .ensures) (d .spread .kept .1 .1 .1 .1 .0) (b .before .if2 .left)
-      (m .before .before .if3 .left)
-      (m .spread3 .ensures) (m .spread3 .kept .1 .1 .1 .1 .0)
-      (rw (b .branch-of .ensures) at (g .charge-row2 .ensures)) (g .charge-row2 .kept .0) (x .cross .ensures) (x .cross .kept .1 .1 .1 .1 .1 .0)
+      meets (opened f .pre .1) (at f) (rest f .spread .ensures) (rest f .spread .kept .1 .1 .1 .1 .0) (b .before .if2 .left)
+      (m .before .before .if3 .left) (m .spread3 .ensures) (m .spread3 .kept .1 .1 .1 .1 .0)
+      (rw (b .branch-of .ensures) at (g .charge-row2 .ensures)) (g .charge-row2 .kept .0)
+      (x .cross .ensures) (x .cross .kept .1 .1 .1 .1 .1 .0)
+
+  -- the records of both, at the end
+  both-most : (c : spread-lts.After-slice-known9 (calls t) (spread-at t) spread.Post) →
+      let u = c .before .before in
+      let x = u .before .before .before .before in
+      let g = x .before .before .before .before in
+      let m = g .before .before .before .before in
+      let f = m .before .before .before .before .before in
+      (rest f .spread .result ≤ 127) × (m .spread3 .result ≤ 127)
+  both-most c =
+      let u = c .before .before in
+      let x = u .before .before .before .before in
+      let g = x .before .before .before .before in
+      let m = g .before .before .before .before in
+      let f = m .before .before .before .before .before in
+      (later-most f, members-most f (m .spread3 .ensures .records))
 
   add-result-3 : spread-lts.Need-add-result-3 (calls t) (spread-at t) spread.Post
-  add-result-3 c =
-      let u = c .before .before in
-      let x = u .before .before .before .before in
-      let g = x .before .before .before .before in
-      let m = g .before .before .before .before in
-      let b = m .before .before .before in
-      let f = b .before .before in
-      let d = f .before .before .before in
-      let n = d .before .before in
-      let e = n .before in
-      let h = start e .pre .1 in
-      omega (
-        arith,
-        d .spread .ensures .records,
-        m .spread3 .ensures .records,
-        records-most _ (h .running .base .kept) (n .next-of .result) (to-next h (pos e) (n .next-of .ensures) refl .most),
-        records-most _ (h .running .base .kept) (f .first-of .result) (to-first h (pos e) refl (f .first-of .ensures) .most),
-        h .running .base .kept .size-most,
-      )
+  add-result-3 c = omega (arith, both-most c)
 
   add-result-4 : spread-lts.Need-add-result-4 (calls t) (spread-at t) spread.Post
-  add-result-4 c =
-      let u = c .before .before in
-      let x = u .before .before .before .before in
-      let g = x .before .before .before .before in
-      let m = g .before .before .before .before in
-      let b = m .before .before .before in
-      let f = b .before .before in
-      let d = f .before .before .before in
-      let n = d .before .before in
-      let e = n .before in
-      let h = start e .pre .1 in
-      omega (
-        arith,
-        d .spread .ensures .records,
-        m .spread3 .ensures .records,
-        records-most _ (h .running .base .kept) (n .next-of .result) (to-next h (pos e) (n .next-of .ensures) refl .most),
-        records-most _ (h .running .base .kept) (f .first-of .result) (to-first h (pos e) refl (f .first-of .ensures) .most),
-        h .running .base .kept .size-most,
-      )
+  add-result-4 c = omega (arith, both-most c)
 
   same-length-3 : spread-lts.Need-same-length-3 (calls t) (spread-at t) spread.Post
   same-length-3 c =
@@ -309,7 +284,7 @@ module _ (t : ℕ) where
       let g = x .before .before .before .before in
       let m = g .before .before .before .before in
       u .meet .kept .0 ∙ x .cross .kept .1 .1 .1 .1 .1 .0 ∙ g .charge-row2 .kept .0 ∙ m .spread3 .kept .1 .1 .1 .1 .0
-      ∙ m .before .before .before .before .before .before .before .before .spread .kept .1 .1 .1 .1 .0
+      ∙ rest (m .before .before .before .before .before) .spread .kept .1 .1 .1 .1 .0
 
   returns-4 : spread-lts.Need-returns-4 (calls t) (spread-at t) spread.Post
   returns-4 c =
@@ -319,15 +294,10 @@ module _ (t : ℕ) where
       let m = g .before .before .before .before in
       let b = m .before .before .before in
       let f = b .before .before in
-      let d = f .before .before .before in
-      let n = d .before .before in
-      let e = n .before in
-      let h = start e .pre .1 in
-      spread-more h (pos e) (n .next-of .ensures) (f .first-of .ensures) (d .spread .ensures) (d .spread .kept .1 .1 .1 .1 .0)
-      (b .before .if2 .left) (m .before .before .if3 .left)
-      (m .spread3 .ensures) (m .spread3 .kept .1 .1 .1 .1 .0)
-      (rw (b .branch-of .ensures) at (g .charge-row2 .ensures)) (g .charge-row2 .kept .0) (x .cross .ensures) (x .cross .kept .1 .1 .1 .1 .1 .0)
-      (u .meet .ensures)
+      spread-more (opened f .pre .1) (at f) (rest f .spread .ensures) (rest f .spread .kept .1 .1 .1 .1 .0) (b .before .if2 .left)
+      (m .before .before .if3 .left) (m .spread3 .ensures) (m .spread3 .kept .1 .1 .1 .1 .0)
+      (rw (b .branch-of .ensures) at (g .charge-row2 .ensures)) (g .charge-row2 .kept .0)
+      (x .cross .ensures) (x .cross .kept .1 .1 .1 .1 .1 .0) (u .meet .ensures)
 
 pub +spread-spec : {M : Type 1} → statement M
 +spread-spec =

@@ -1,18 +1,19 @@
 -- `table::spread::cross` meets its contract.
 use native.Mathlib.Omega.{arith}
 use borrow.Author.Needs.{needs}
-use Rattle.table.proofs.Crossing.{own-inside, ready-members, chargeable-cross, crossed-members, ready-rest, crossed-rest}
+use Rattle.table.proofs.Places.{own-inside}
+use Rattle.table.proofs.Crossing.{ready-members, chargeable-cross, crossed-members, ready-rest, crossed-rest}
 use Rattle.table.proofs.spread.cross.Statement.{statement}
 use Rattle.table.proofs.spread.cross.Tie as tie
 
 mul-own : tie.Need-mul-own
-mul-own c = omega (arith, own-inside (c .before .before .pre))
+mul-own c = omega (arith, own-inside (c .before .before .pre .base) (c .before .before .pre .most))
 
 mul-own-2 : tie.Need-mul-own-2
-mul-own-2 c = omega (arith, own-inside (c .before .before .pre))
+mul-own-2 c = omega (arith, own-inside (c .before .before .pre .base) (c .before .before .pre .most))
 
 add-push : tie.Need-add-push
-add-push c = omega (arith, own-inside (c .before .before .before .before .pre))
+add-push c = omega (arith, own-inside (c .before .before .before .before .pre .base) (c .before .before .before .before .pre .most))
 
 push-requires : tie.Need-push-requires
 push-requires c κs =

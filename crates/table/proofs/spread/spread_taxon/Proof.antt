@@ -1,7 +1,7 @@
 -- `table::spread::spread_taxon` meets its contract.
 use native.Mathlib.Omega.{arith}
 use borrow.Author.Needs.{needs}
-use Rattle.table.proofs.Pushing.{blank-none}
+use Rattle.table.proofs.Places.{blank-none}
 use Rattle.table.proofs.Spreading.{pairable-kept, spreadable-kept, joins-rooted, taxon-spread}
 use Rattle.table.proofs.spread.spread_taxon.Statement.{statement}
 use Rattle.table.proofs.spread.spread_taxon.Tie as tie
