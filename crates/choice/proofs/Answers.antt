@@ -5,16 +5,17 @@ use mathlib.Core.Logic.{_⊎_, inl, inr}
 use mathlib.Core.Bool.{Bool, true, false, _&&_, not, false≢true}
 use mathlib.Core.List.{List, _++_}
 use native.Mathlib.Omega.{arith}
-use lib.Dec.{eqb}
+use lib.Dec.{eqb, ltb}
 use lib.ListN.{length, take, drop, length-replicate}
 use lib.Seq.{length-take-le}
 use borrow.Author.Tests.{ltb-false, eqb-true, eqb-false}
 use Rattle.outline.specs.Lists.{pick}
-use Rattle.outline.specs.Refusals.{refusal, sizeRows, recordRows}
+use Rattle.outline.specs.Refusals.{refusal, row, mostRecords, sizeRows, recordRows}
 use Rattle.outline.specs.declared.verdict.Refusal.{Refusal}
 use Rattle.outline.proofs.Bools.{both-false}
 use Rattle.outline.proofs.Refusals.{both-pass, row-fails, refusal-not-zero}
 use Rattle.outline.proofs.Kept.{rows-kept}
+use Rattle.outline.proofs.Placed.{Placed, row-placed, then-placed, sizes-placed, records-placed}
 use Rattle.choice.specs.Answer.{Call, Answered, refused, mostCount, workTaken, tooShort, judged, isSelected, selected, reply}
 use Rattle.choice.specs.Answer.{curveOf, over, marksAfter, curveAfter, workAfter}
 use Rattle.choice.specs.Inner.{Solvable, Solved}
@@ -117,3 +118,23 @@ module _ (c : Call) where
         curve-written = rw number;
         work-cleared = rw number;
       }
+
+  -- ---- how large the numbers of a refusal are
+  pub judged-placed : Placed (judged c)
+  unfolding judged
+  judged-placed =
+      let unknown = not (eqb (c .way) 0) && not (eqb (c .way) 1) in
+      let large = ltb mostCount (c .count) in
+      then-placed (row 1 unknown) _ (row-placed 1 unknown (omega arith))
+      (λ _. then-placed (sizeRows (c .outline)) _ (sizes-placed (c .outline))
+      (λ sized. then-placed (row 4 large) _ (row-placed 4 large (omega arith))
+      (λ _. then-placed (recordRows (c .outline)) _ (records-placed (c .outline) sized)
+      (λ _. row-placed 9 (tooShort c) (omega arith)))))
+
+  pub reply-place-most : reply c .place ≤ mostRecords
+  unfolding reply selected
+  reply-place-most = go (isSelected c)
+    where
+      go : (b : Bool) → (pick b (selected c) (refused (judged c))) .place ≤ mostRecords
+      go true = omega arith
+      go false = judged-placed .place-most

@@ -6,7 +6,7 @@ use mathlib.Core.Bool.{Bool, true, false}
 use mathlib.Core.List.{List, [], _∷_}
 use native.Mathlib.Omega.{arith}
 use lib.Dec.{ltb}
-use lib.ListN.{length, getD, take, length-append, length-take, length-drop, List·getD-eq-default}
+use lib.ListN.{length, getD, take, length-append, length-take, List·getD-eq-default}
 use lib.Seq.{take-all, getD-take, getD-drop}
 use borrow.Author.Tests.{lt-ltb, le-ltb, ltb-true, ltb-false}
 use Rattle.outline.specs.Lists.{pick, one, from}
@@ -14,18 +14,18 @@ use Rattle.outline.specs.Outline.{short, long, size, records, price, plate}
 use Rattle.outline.specs.Refusals.{Told}
 use Rattle.outline.proofs.Bools.{one-le}
 use Rattle.outline.proofs.Kept.{Kept}
+use Rattle.outline.proofs.Placed.{Placed}
 use Rattle.diversity.specs.Diversity.{chosen, diversity, cost, chosenTaxa}
 use Rattle.diversity.specs.Search.{optimum, bestDiversity, leastCost}
 use Rattle.laws.proofs.Optimum.{optimum-fits}
 use Rattle.laws.proofs.Sums.{total-most}
 use Rattle.choice.specs.Answer.{Call, judged, isSelected, bestSet, selected}
 use Rattle.choice.specs.Inner.{Solvable}
-use Rattle.choice.proofs.Answers.{way-known, selected-solvable}
+use Rattle.choice.proofs.Answers.{way-known, selected-solvable, judged-placed}
 use Rattle.choice.proofs.Solving.{diversity-most}
 use Rattle.text.specs.Text.{others, line}
 use Rattle.text.proofs.Decimal.{decimal-most}
 use Rattle.listing.specs.Printed.{callWith, callOf, refusalText, firstLine, columnLine, taxonLine, selectionText, answerText, printed}
-use Rattle.listing.proofs.Judged.{Placed, judged-placed}
 use Rattle.listing.proofs.Texts.{texts-length}
 
 -- the numbers of a list are bytes
@@ -41,9 +41,9 @@ unfolding long
 long-most l at b = omega (arith, short-most l at b, short-most l (at + 2) b)
 
 -- ---- a refusal
-refusal-most : (n : ℕ) (t : Told) → n < 1000 → Placed n t → length (refusalText t) ≤ 14
+refusal-most : (t : Told) → Placed t → length (refusalText t) ≤ 14
 unfolding refusalText others
-refusal-most n t h p =
+refusal-most t p =
     simp length-append (omega (
       arith,
       decimal-most 0 (t .number) (omega (arith, p .number-most)),
@@ -117,18 +117,17 @@ module _ (c : Call) (known : (c .way ≡ 0) ⊎ (c .way ≡ 1)) (p : Solvable c)
       ))
 
 -- ---- what is printed
-answer-most : (c : Call) → length (c .curve) ≤ 1024 → size (c .outline) < 1000 → Bytes (c .outline) → length (answerText c) ≤ 16384
+answer-most : (c : Call) → length (c .curve) ≤ 1024 → Bytes (c .outline) → length (answerText c) ≤ 16384
 unfolding answerText
-answer-most c narrow few bytes = go (isSelected c) refl
+answer-most c narrow bytes = go (isSelected c) refl
   where
     go : (b : Bool) → isSelected c ≡ b → length (pick b (selectionText c) (refusalText (judged c))) ≤ 16384
     go true e = selection-most c (way-known c e) (selected-solvable c e) narrow bytes
-    go false e = omega (arith, refusal-most (size (c .outline)) (judged c) few (judged-placed c))
+    go false e = omega (arith, refusal-most (judged c) (judged-placed c))
 
 call-most : (l : List ℕ) → length l ≤ 2052 → Bytes l → length (answerText (callOf l)) ≤ 16384
 unfolding callOf callWith
-call-most l h b =
-    answer-most (callOf l) (omega arith) (simp length-drop (omega arith)) (λ i. rw getD-drop (b (4 + i)))
+call-most l h b = answer-most (callOf l) (omega arith) (λ i. rw getD-drop (b (4 + i)))
 
 bytes-taken : (n : ℕ) (l : List ℕ) → Bytes l → Bytes (take n l)
 bytes-taken n l b i = go (ltb i n) refl
@@ -157,6 +156,5 @@ printed-fits input b = go (ltb (length input) 4)
   where
     go : (t : Bool) → length (pick t (refusalText (record { number = 2; place = 0 })) (answerText (callOf (take 2052 input)))) ≤ 16384
     go true =
-        let placed : Placed 0 (record { number = 2; place = 0 }) = record { number-most = omega arith; place-most = omega arith } in
-        omega (arith, refusal-most 0 (record { number = 2; place = 0 }) (omega arith) placed)
+        omega (arith, refusal-most (record { number = 2; place = 0 }) (record { number-most = omega arith; place-most = omega arith }))
     go false = call-most (take 2052 input) (rw length-take (omega arith)) (bytes-taken 2052 input b)

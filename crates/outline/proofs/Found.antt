@@ -1,7 +1,7 @@
 -- What the finder gives: the record of the one taxon that has the plate, where the outline is accepted and there is one.
 use Prim.Native.Nat.{ℕ, _+_, _*_, _-_, _≤_, _<_}
 use mathlib.Core.Path.{_≡_, refl, sym, _∙_}
-use mathlib.Core.Bool.{Bool, true, false, _&&_, not, false≢true}
+use mathlib.Core.Bool.{Bool, true, false, false≢true}
 use mathlib.Core.List.{List, []}
 use mathlib.Core.Logic.{_↔_}
 use native.Mathlib.Omega.{arith}
@@ -11,10 +11,10 @@ use lib.Dec.{eqb}
 use borrow.Author.Tests.{eqb-true, eqb-false, eq-eqb, ne-eqb}
 use Rattle.outline.specs.Lists.{pick, lowest}
 use Rattle.outline.specs.Outline.{short, long, size, records, plate, isTaxon}
-use Rattle.outline.specs.Refusals.{hasPlate, isAccepted, found}
+use Rattle.outline.specs.Refusals.{hasPlate, mostRecords, isAccepted, foundAt, found}
 use Rattle.outline.proofs.Kept.{Kept, accepted-kept}
 use Rattle.outline.proofs.Bools.{both-true}
-use Rattle.outline.proofs.Walk.{lowest-none, lowest-holds}
+use Rattle.outline.proofs.Walk.{lowest-none, lowest-holds, lowest-le}
 
 -- some taxon has plate p
 pub record Holder (o : List ℕ) (p : ℕ) : Type 0 where
@@ -90,10 +90,31 @@ module _ (o : List ℕ) (p : ℕ) where
           let (low, high, taxon, plated) = at-holds (eqb-false at 0 z) in
           kept .plates-differ at (h .at) low high (h .low) (h .high) taxon (h .taxon) (plated ∙ sym (h .plated))
 
-  -- the part found is the record of the taxon that has the plate
+  -- the record found is one of the outline's
+  pub found-at-le : foundAt o p ≤ size o
+  unfolding foundAt records
+  found-at-le = go (isAccepted o)
+    where
+      go : (a : Bool) → pick a (lowest (hasPlate o p) (records o)) 0 ≤ size o
+      go true = lowest-le (hasPlate o p) (size o)
+      go false = omega arith
+
+  pub found-at-most : foundAt o p ≤ mostRecords
+  unfolding foundAt at
+  found-at-most = go (isAccepted o) refl
+    where
+      go : (a : Bool) → isAccepted o ≡ a → pick a at 0 ≤ mostRecords
+      go true e = unfold records in omega (arith, lowest-le (hasPlate o p) (size o), accepted-kept o e .size-most)
+      go false e = omega arith
+
+  -- it is the taxon that has the plate, and the part found is its record
+  pub found-at : isAccepted o ≡ true → (h : Holder o p) → foundAt o p ≡ h .at
+  unfolding foundAt at
+  found-at a h = rw a (at-holder (accepted-kept o a) h)
+
   pub found-record : isAccepted o ≡ true → (h : Holder o p) → found o p ≡ take 16 (drop (16 * (h .at - 1)) o)
-  unfolding found at
-  found-record a h = rw (a, at-holder (accepted-kept o a) h, ne-eqb (h .at) 0 (λ z. omega (arith, h .low)))
+  unfolding found
+  found-record a h = rw (found-at a h, ne-eqb (h .at) 0 (λ z. omega (arith, h .low)))
 
   pub found-carries : isAccepted o ≡ true → Holder o p → Carries p (found o p)
   unfolding part
@@ -101,12 +122,12 @@ module _ (o : List ℕ) (p : ℕ) where
 
   -- it is not empty exactly where the outline is accepted and a taxon has the plate
   pub found-exactly : (0 < length (found o p)) ↔ ((isAccepted o ≡ true) × Holder o p)
-  unfolding found at
+  unfolding found foundAt at
   found-exactly = (λ h. go (isAccepted o) refl (eqb at 0) refl h, λ (a, h). omega (arith, found-carries a h .whole))
     where
       go : (a : Bool) → isAccepted o ≡ a → (z : Bool) → eqb at 0 ≡ z
-          → 0 < length (pick (a && not z) (take 16 (drop (16 * (at - 1)) o)) []) → (isAccepted o ≡ true) × Holder o p
-      go true a true z h = absurd (omega arith)
+          → 0 < length (pick (eqb (pick a at 0) 0) [] (take 16 (drop (16 * (pick a at 0 - 1)) o))) → (isAccepted o ≡ true) × Holder o p
+      go true a true z h = absurd (let short = rw z at h in omega arith)
       go true a false z h =
           let (low, high, taxon, plated) = at-holds (eqb-false at 0 z) in
           (a, record { at = at; low = low; high = high; taxon = taxon; plated = plated })

@@ -2,5 +2,6 @@
 pub mod Bools
 pub mod Found
 pub mod Kept
+pub mod Placed
 pub mod Refusals
 pub mod Walk

@@ -122,8 +122,10 @@ checked o = sizeRows o ▸ recordRows o
 abbrev pub isAccepted : List ℕ → Bool
 isAccepted o = eqb (checked o .number) 0
 
--- the 16 bytes of the taxon of plate p; none if the outline is refused or no taxon has the plate
+-- the record of the taxon of plate p; 0 if the outline is refused or no taxon has the plate
+unfoldable pub foundAt : List ℕ → ℕ → ℕ
+foundAt o p = pick (isAccepted o) (lowest (hasPlate o p) (records o)) 0
+
+-- its 16 bytes; none if there is no such record
 unfoldable pub found : List ℕ → ℕ → List ℕ
-found o p =
-    let r = lowest (hasPlate o p) (records o) in
-    pick (isAccepted o && not (eqb r 0)) (take 16 (drop (16 * (r - 1)) o)) []
+found o p = pick (eqb (foundAt o p) 0) [] (take 16 (drop (16 * (foundAt o p - 1)) o))

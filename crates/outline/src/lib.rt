@@ -1,5 +1,5 @@
-// Outlines: reading their records, checking them, and finding the record of a plate. A buyer calls `check` and `find`,
-// which ask nothing of the caller. `fields` and `verdict` are public for the crates above; a reader of a field requires
+// Outlines: reading their records, checking them, and finding the record of a plate. A buyer calls `check`, `find` and
+// `find_record`, which ask nothing of the caller. `fields` and `verdict` are public for the crates above; a reader of a field requires
 // that the record is there.
 pub mod fields;
 mod finder;
@@ -7,4 +7,5 @@ mod rules;
 pub mod verdict;
 
 pub use finder::find;
+pub use finder::find_record;
 pub use verdict::check;

@@ -1,6 +1,6 @@
 // What the check of an outline answers: the first row of the table of refusals that holds, and its place.
 ghost use mathlib.Core.Path.{_≡_};
-ghost use Rattle.outline.specs.Refusals.{told, sizeRows, recordRows, checked};
+ghost use Rattle.outline.specs.Refusals.{refusal as tells, told, sizeRows, recordRows, checked};
 use super::rules::Rule;
 use super::rules::broken_at;
 use super::rules::taxa_of;
@@ -25,6 +25,40 @@ pub enum Refusal {
 pub enum Verdict {
     Accepted,
     Refused(Refusal),
+}
+
+// A refusal's number in the table.
+pub fn number_of(refusal: Refusal) -> u32
+    ensures { λ v. ⌜ v ≡ tells refusal .number ⌝ }
+{
+    match refusal {
+        Refusal::UnknownWay => 1,
+        Refusal::PartialRecord => 2,
+        Refusal::TooManyRecords => 3,
+        Refusal::CountTooLarge => 4,
+        Refusal::FieldOutOfRange(_) => 5,
+        Refusal::BadLink(_) => 6,
+        Refusal::TooManyTaxa => 7,
+        Refusal::DuplicatePlate(_) => 8,
+        Refusal::BufferTooShort => 9,
+    }
+}
+
+// A refusal's place: the lowest record at fault, 0 for a refusal of the whole.
+pub fn place_of(refusal: Refusal) -> usize
+    ensures { λ v. ⌜ v ≡ tells refusal .place ⌝ }
+{
+    match refusal {
+        Refusal::UnknownWay => 0,
+        Refusal::PartialRecord => 0,
+        Refusal::TooManyRecords => 0,
+        Refusal::CountTooLarge => 0,
+        Refusal::FieldOutOfRange(r) => r,
+        Refusal::BadLink(r) => r,
+        Refusal::TooManyTaxa => 0,
+        Refusal::DuplicatePlate(r) => r,
+        Refusal::BufferTooShort => 0,
+    }
 }
 
 // Rows 2 and 3: whether an outline is whole records, and not too many.

@@ -1,0 +1,71 @@
+// The C interface: checking an outline, finding a plate's record, and choosing, over memory that the caller lends.
+// include/plates.h declares these functions.
+ghost use mathlib.Core.Path.{_≡_};
+ghost use Rattle.outline.specs.Refusals.{foundAt};
+ghost use Rattle.choice.specs.Answer.{call};
+ghost use Rattle.plates.specs.Interface.{Checked, Chosen};
+use choice::Answer;
+use choice::choose;
+use outline::check;
+use outline::find_record;
+use outline::verdict::Verdict;
+use outline::verdict::number_of;
+use outline::verdict::place_of;
+
+// 0, or the number of the first row of the table that refuses an outline; writes its place.
+#[no_mangle]
+pub extern "C" fn plates_check(outline: &[u8], place: &mut u32) -> u32
+    ensures { λ n. ⌜ Checked (now (outline .entry)) n (now (place .exit)) ⌝ }
+{
+    match check(outline) {
+        Verdict::Accepted => {
+            *place = 0;
+            0
+        }
+        Verdict::Refused(refusal) => {
+            *place = place_of(refusal) as u32;
+            number_of(refusal)
+        }
+    }
+}
+
+// The record of the taxon of a plate; 0 where the finder's part is empty.
+#[no_mangle]
+pub extern "C" fn plates_find(outline: &[u8], plate: u32) -> u32
+    ensures { λ r. ⌜ r ≡ foundAt (now (outline .entry)) plate ⌝ }
+{
+    find_record(outline, plate) as u32
+}
+
+// Chooses, and writes number, place, diversity, cost, number of taxa and spare; the number is given as well.
+#[no_mangle]
+pub extern "C" fn plates_choose(
+    outline: &[u8],
+    count: u32,
+    way: u32,
+    marks: &mut [u8],
+    curve: &mut [u32],
+    work: &mut [u64],
+    answer: &mut [u32; 6],
+) -> u32
+    ensures { λ n. ⌜ Chosen
+        (call (now (outline .entry)) count way (now (marks .entry)) (now (curve .entry)) (now (work .entry)))
+        n (now (answer .exit)) (now (marks .exit)) (now (curve .exit)) (now (work .exit)) ⌝ }
+{
+    match choose(outline, count, way, marks, curve, work) {
+        Answer::Selected {
+            diversity,
+            cost,
+            taxa,
+            spare,
+        } => {
+            *answer = [0, 0, diversity, cost, taxa, spare];
+            0
+        }
+        Answer::Refused(refusal) => {
+            let number = number_of(refusal);
+            *answer = [number, place_of(refusal) as u32, 0, 0, 0, 0];
+            number
+        }
+    }
+}
