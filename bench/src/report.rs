@@ -1,0 +1,255 @@
+//! The tables and lines that are printed, in Markdown.
+
+use crate::case::Case;
+use crate::glpk;
+use crate::times::{digits, microseconds, milliseconds, Times};
+
+/// What stands in the table for a peer that has no time.
+pub struct Missing {
+    pub iqtree: &'static str,
+    pub glpk: &'static str,
+    pub table: &'static str,
+}
+
+const WAYS: [&str; 2] = ["rooted", "unrooted"];
+/// How many times faster than IQ-TREE each way is to be.
+const TIMES_FASTER: [f64; 2] = [4.0, 12.0];
+/// How many times as long as clearing `work` each way may take.
+const TIMES_CLEARING: [f64; 2] = [4.0, 12.0];
+
+const SIDE_BY_SIDE: &str = "\
+Milliseconds for 64 taxa: 127 records (star: 65), count 4,096 (case G: 4,095).
+
+- plates gives the optimum of every count from 0 to the given one, and the set; IQ-TREE and GLPK solve one budget.
+- Lengths are random up to 1,000 and prices up to 127 (dear: 255), all taxa together dearer than 4,096. In case G every
+  length is 1 and every price 64.
+- plates and the clearing of `work` are wall time, called in turn; their ratio is that of the shortest times.
+- IQ-TREE's median is of its own figure, to the microsecond: user time of the search alone. Linux may split
+  the time of a process into user and system time by what runs at a clock tick, so the figure of a search of 7 ms can be
+  anything from 0 to 8. The ratio therefore is that of the medians. As a check, its process: shortest wall time of the
+  whole process, less the shortest with budget 0.
+- GLPK is the median wall time of a few processes, less that of a program with nothing to decide.
+- The two tables are Rust, and find the optimum of every count too. The plain table joins the members of each group over
+  every split of every budget, O(N B²). The table of costs goes over the pairs of costs that occur instead: as many at worst,
+  but few where prices are alike (case G), and one pass for a single taxon. Medians of a few runs.
+- The ratios of GLPK and of the tables are to the median of plates.
+";
+
+const BY_COUNT: &str = "\
+Shortest times of plates; a column is one count from 0 to the given one. The largest count of case G is 4,095. The last
+four are the ratios of the medians of IQ-TREE's own figure and of plates, with a dash where IQ-TREE's is 0 or missing.
+";
+
+const COUNTS: [&str; 4] = ["64", "256", "1,024", "4,096"];
+
+fn print_table(head: &[String], rows: &[Vec<String>]) {
+    println!("| {} |", head.join(" | "));
+    println!("|{}", "---|".repeat(head.len()));
+    for row in rows {
+        println!("| {} |", row.join(" | "));
+    }
+    println!();
+}
+
+fn words<const N: usize>(words: [&str; N]) -> Vec<String> {
+    words.map(str::to_string).to_vec()
+}
+
+fn way(case: &Case) -> String {
+    WAYS[case.way as usize].to_string()
+}
+
+fn in_milliseconds(seconds: Option<f64>) -> String {
+    seconds.map_or(String::new(), milliseconds)
+}
+
+fn ratio(one: Option<f64>, other: Option<f64>) -> String {
+    one.zip(other)
+        .map_or(String::new(), |(one, other)| digits(one / other))
+}
+
+pub fn side_by_side(cases: &[&Case], missing: &Missing) {
+    println!("### Times side by side\n\n{SIDE_BY_SIDE}");
+    let head = words([
+        "shape",
+        "way",
+        "plates shortest",
+        "plates median",
+        "clearing",
+        "plates / clearing",
+        "IQ-TREE median",
+        "IQ-TREE / plates",
+        "IQ-TREE process",
+        "GLPK",
+        "GLPK / plates",
+        "plain table",
+        "plain / plates",
+        "table of costs",
+        "costs / plates",
+    ]);
+    let rows: Vec<_> = cases.iter().map(|case| row(case, missing)).collect();
+    print_table(&head, &rows);
+}
+
+fn row(case: &Case, missing: &Missing) -> Vec<String> {
+    let median = case.plates.median();
+    let search = &case.iqtree.search;
+    let mut row = vec![
+        case.name.clone(),
+        way(case),
+        in_milliseconds(case.plates.shortest()),
+        in_milliseconds(median),
+        in_milliseconds(case.clearing.shortest()),
+        ratio(case.plates.shortest(), case.clearing.shortest()),
+    ];
+    row.push(or_missing(search.median(), missing.iqtree));
+    row.push(ratio(search.median(), median));
+    row.push(in_milliseconds(case.iqtree.beyond_empty()));
+    row.push(glpk_cell(case, missing));
+    row.push(ratio(case.glpk.median(), median));
+    for table in [&case.plain, &case.table] {
+        row.push(or_missing(table.median(), missing.table));
+        row.push(ratio(table.median(), median));
+    }
+    row
+}
+
+fn or_missing(seconds: Option<f64>, missing: &str) -> String {
+    seconds.map_or(missing.to_string(), milliseconds)
+}
+
+fn glpk_cell(case: &Case, missing: &Missing) -> String {
+    if case.glpk_gave_up {
+        return format!("> {} s", glpk::LIMIT);
+    }
+    or_missing(case.glpk.median(), missing.glpk)
+}
+
+/// Each group holds the cases of one outline and way by growing count.
+pub fn growth_with_count(groups: &[Vec<Case>]) {
+    println!("### How the time grows with the count\n\n{BY_COUNT}");
+    let mut head = words(["shape", "way"]);
+    head.extend(COUNTS.map(|count| format!("{count}: ms")));
+    head.extend(COUNTS.map(|count| format!("{count}: µs per column")));
+    head.extend(COUNTS.map(|count| format!("{count}: IQ-TREE / plates")));
+    let rows: Vec<_> = groups.iter().map(|group| count_row(group)).collect();
+    print_table(&head, &rows);
+}
+
+fn count_row(group: &[Case]) -> Vec<String> {
+    let per_column = |case: &Case| {
+        let seconds = case.plates.shortest();
+        seconds.map_or(String::new(), |seconds| {
+            microseconds(seconds / f64::from(case.count + 1))
+        })
+    };
+    let cases = group.iter();
+    let mut row = vec![group[0].name.clone(), way(&group[0])];
+    row.extend(
+        cases
+            .clone()
+            .map(|case| in_milliseconds(case.plates.shortest())),
+    );
+    row.extend(cases.clone().map(per_column));
+    row.extend(cases.map(|case| {
+        let search = case.iqtree.search.median().filter(|&seconds| seconds > 0.0);
+        search.map_or("-".to_string(), |_| ratio(search, case.plates.median()))
+    }));
+    row
+}
+
+pub fn growth_with_records(cases: &[Case]) {
+    println!("### How the time grows with the records\n");
+    println!("Shortest times of plates at count 4,096.\n");
+    let head = words(["shape", "way", "records", "ms", "µs per record"]);
+    let row = |case: &Case| {
+        let records = case.tree.records.len();
+        let seconds = case.plates.shortest();
+        let per_record = seconds.map(|seconds| microseconds(seconds / records as f64));
+        vec![
+            case.name.clone(),
+            way(case),
+            records.to_string(),
+            in_milliseconds(seconds),
+            per_record.unwrap_or_default(),
+        ]
+    };
+    let rows: Vec<_> = cases.iter().map(row).collect();
+    print_table(&head, &rows);
+}
+
+/// How many answers agree, and the first that do not.
+pub fn agreement<'a>(cases: impl Iterator<Item = &'a Case> + Clone) {
+    let compared: usize = cases.clone().map(|case| case.compared).sum();
+    let differences: Vec<&String> = cases.flat_map(|case| &case.differences).collect();
+    for difference in differences.iter().take(20) {
+        println!("WARNING: {difference}");
+    }
+    println!(
+        "Answers compared with those of plates: {compared}, differing: {}.\n",
+        differences.len()
+    );
+}
+
+/// Whether the speeds to be reached are reached, by the worst case of each way.
+pub fn targets(cases: &[&Case]) {
+    for way in 0..2 {
+        let mut of_way = cases.to_vec();
+        of_way.retain(|case| case.way as usize == way);
+        beside_iqtree(&of_way, way);
+        beside_clearing(&of_way, way);
+    }
+}
+
+fn beside_iqtree(cases: &[&Case], way: usize) {
+    let (name, bound) = (WAYS[way], TIMES_FASTER[way]);
+    let target = format!(
+        "{name} at least {bound} times faster than IQ-TREE on every shape at the largest count"
+    );
+    let over = |iqtree: Option<f64>, plates: &Times| Some(iqtree? / plates.shortest()?);
+    let medians = |case: &Case| Some(case.iqtree.search.median()? / case.plates.median()?);
+    let shortest = |case: &Case| over(case.iqtree.search.shortest(), &case.plates);
+    let process = |case: &Case| over(case.iqtree.beyond_empty(), &case.plates);
+    let Some((least, shape)) = lowest(cases, medians) else {
+        println!("Target, {target}: not judged, IQ-TREE did not run.");
+        return;
+    };
+    println!(
+        "Target, {target}: {}. Smallest ratio of medians {} ({shape}).",
+        verdict(least >= bound),
+        digits(least)
+    );
+    println!(
+        "Beside it the smallest ratio by IQ-TREE's process is {}, by the shortest of its own figures {}.",
+        lowest(cases, process).map_or(String::new(), |(least, _)| digits(least)),
+        lowest(cases, shortest).map_or(String::new(), |(least, _)| digits(least))
+    );
+}
+
+fn beside_clearing(cases: &[&Case], way: usize) {
+    let (name, bound) = (WAYS[way], TIMES_CLEARING[way]);
+    let share = |case: &Case| Some(case.clearing.shortest()? / case.plates.shortest()?);
+    if let Some((share, shape)) = lowest(cases, share) {
+        println!(
+            "Target, {name} at most {bound} times clearing `work` on every shape: {}. Largest multiple {} ({shape}).\n",
+            verdict(1.0 / share <= bound),
+            digits(1.0 / share)
+        );
+    }
+}
+
+/// The smallest figure and its shape; none if a case has none.
+fn lowest(cases: &[&Case], figure: impl Fn(&Case) -> Option<f64>) -> Option<(f64, String)> {
+    let figures: Option<Vec<f64>> = cases.iter().map(|case| figure(case)).collect();
+    let named = figures?.into_iter().zip(cases);
+    let (least, case) = named.min_by(|(one, _), (other, _)| one.total_cmp(other))?;
+    Some((least, case.name.clone()))
+}
+
+fn verdict(reached: bool) -> &'static str {
+    if reached {
+        "reached"
+    } else {
+        "NOT reached"
+    }
+}

@@ -1,0 +1,228 @@
+//! Choosing: the best set of taxa for a page count.
+
+use crate::outline::{Outline, Record};
+use crate::refusal::Refusal;
+use crate::sys;
+use std::fmt;
+
+/// The largest page count, in quarter pages.
+pub const MOST_COUNT: u32 = 4096;
+
+/// What the diversity of a set of taxa is. It is 0 for the empty set either way.
+#[derive(Clone, Copy, Debug, PartialEq, Eq, Hash)]
+pub enum Way {
+    /// The sum of the lengths of all records that are, or have below them, a chosen taxon: the part
+    /// of the tree that joins the chosen taxa and the root. The root's own length counts.
+    Rooted = 0,
+    /// The sum of the lengths of all records with a chosen taxon at or below them and a chosen
+    /// taxon elsewhere: the part of the tree that joins the chosen taxa to each other. 0 for one
+    /// taxon.
+    Unrooted = 1,
+}
+
+/// The best set that fits one count.
+#[derive(Clone, Copy, Debug, PartialEq, Eq, Hash)]
+pub struct Column {
+    /// The count, in quarter pages.
+    pub count: u32,
+    /// The most diversity that a set which fits the count has.
+    pub diversity: u32,
+    /// The least that a set of this diversity costs.
+    pub cost: u32,
+}
+
+/// The best set of taxa for a page count, and the best diversity for every smaller one.
+#[derive(Clone, Debug, PartialEq, Eq, Hash)]
+pub struct Choice {
+    diversity: u32,
+    cost: u32,
+    spare: u32,
+    taxa: Vec<Record>,
+    marks: Vec<u8>,
+    curve: Vec<Column>,
+}
+
+impl Choice {
+    /// The diversity of the chosen set.
+    pub fn diversity(&self) -> u32 {
+        self.diversity
+    }
+
+    /// The sum of the chosen taxa's prices, in quarter pages.
+    pub fn cost(&self) -> u32 {
+        self.cost
+    }
+
+    /// How many quarters the page count could be lower at the same diversity: the page count minus
+    /// the cost.
+    pub fn spare(&self) -> u32 {
+        self.spare
+    }
+
+    /// The chosen taxa, in record order.
+    pub fn taxa(&self) -> &[Record] {
+        &self.taxa
+    }
+
+    /// For each record, in order, 1 if it is a chosen taxon, else 0.
+    pub fn marks(&self) -> &[u8] {
+        &self.marks
+    }
+
+    /// The best for each count from 0 to the page count: that for count b stands at index b.
+    pub fn curve(&self) -> &[Column] {
+        &self.curve
+    }
+}
+
+/// Memory for choosing, to use again from call to call.
+///
+/// It grows as calls need it, to 17 MB for the largest outline and count, and doesn't shrink. It
+/// holds nothing that a later choice depends on.
+#[derive(Clone, Default)]
+pub struct Work {
+    marks: Vec<u8>,
+    curve: Vec<u32>,
+    cells: Vec<u64>,
+}
+
+impl Work {
+    /// No memory yet.
+    pub fn new() -> Work {
+        Work::default()
+    }
+
+    fn grow(&mut self, records: usize, count: u32) {
+        grow(&mut self.marks, sys::marks_len(records));
+        grow(&mut self.curve, sys::curve_len(count));
+        grow(&mut self.cells, sys::work_len(records, count));
+    }
+}
+
+// What stands in a buffer before a call makes no difference, so nothing is copied.
+fn grow<T: Clone + Default>(buffer: &mut Vec<T>, len: usize) {
+    if buffer.len() < len {
+        *buffer = vec![T::default(); len];
+    }
+}
+
+/// Shows no contents, which mean nothing between calls.
+impl fmt::Debug for Work {
+    fn fmt(&self, f: &mut fmt::Formatter<'_>) -> fmt::Result {
+        f.debug_struct("Work").finish_non_exhaustive()
+    }
+}
+
+/// Chooses the best taxa of an outline for a page count.
+///
+/// The best set is the one with the most diversity among those that cost no more than the count; at
+/// equal diversity the one that costs less; at equal cost too, the one that has the lowest-numbered
+/// taxon on which they differ.
+///
+/// # Errors
+///
+/// [`Refusal::CountTooLarge`] if the count is above [`MOST_COUNT`]; nothing else.
+///
+/// ```
+/// use plates::{choose, Tree, Way};
+///
+/// let outline = Tree::group(0, [
+///     Tree::group(3, [Tree::taxon(11, 4, 3), Tree::taxon(12, 2, 1)]),
+///     Tree::taxon(13, 5, 2),
+/// ])
+/// .outline()?;
+///
+/// let choice = choose(&outline, 4, Way::Rooted)?;
+/// let plates: Vec<u32> = choice.taxa().iter().map(|taxon| taxon.plate).collect();
+/// assert_eq!(plates, [12, 13]);
+/// assert_eq!((choice.diversity(), choice.cost(), choice.spare()), (10, 3, 1));
+///
+/// let diversities: Vec<u32> = choice.curve().iter().map(|column| column.diversity).collect();
+/// assert_eq!(diversities, [0, 5, 5, 10, 10]);
+/// # Ok::<(), Box<dyn std::error::Error>>(())
+/// ```
+pub fn choose(outline: &Outline, count: u32, way: Way) -> Result<Choice, Refusal> {
+    choose_in(outline, count, way, &mut Work::new())
+}
+
+/// Chooses like [`choose`], with memory that the caller keeps: for those who choose often.
+///
+/// # Errors
+///
+/// As [`choose`].
+///
+/// ```
+/// use plates::{choose_in, Tree, Way, Work};
+///
+/// let outline = Tree::taxon(7, 5, 1).outline()?;
+/// let mut work = Work::new();
+/// for count in 0..10 {
+///     let choice = choose_in(&outline, count, Way::Rooted, &mut work)?;
+///     assert_eq!(choice.taxa().len(), count.min(1) as usize);
+/// }
+/// # Ok::<(), Box<dyn std::error::Error>>(())
+/// ```
+pub fn choose_in(
+    outline: &Outline,
+    count: u32,
+    way: Way,
+    work: &mut Work,
+) -> Result<Choice, Refusal> {
+    let records = outline.records().len();
+    // A larger count is refused whatever the buffers are, so no memory is taken for it.
+    if count <= MOST_COUNT {
+        work.grow(records, count);
+    }
+    let answer = call(outline, count, way, work);
+    Refusal::judge(answer[0], answer[1])?;
+    Ok(read(outline, count, work, answer))
+}
+
+// Calls the library: the answer's six numbers.
+fn call(outline: &Outline, count: u32, way: Way, work: &mut Work) -> [u32; 6] {
+    let bytes = outline.as_bytes();
+    let mut answer = [0; 6];
+    // SAFETY: each pointer and the length after it are those of one slice or vector, answer has six
+    // numbers, and no two overlap: all but the outline are borrowed as mutable.
+    unsafe {
+        sys::plates_choose(
+            bytes.as_ptr(),
+            bytes.len(),
+            count,
+            way as u32,
+            work.marks.as_mut_ptr(),
+            work.marks.len(),
+            work.curve.as_mut_ptr(),
+            work.curve.len(),
+            work.cells.as_mut_ptr(),
+            work.cells.len(),
+            answer.as_mut_ptr(),
+        )
+    };
+    answer
+}
+
+// What the call has written. The buffers may be longer than this call needs, from earlier ones.
+fn read(outline: &Outline, count: u32, work: &Work, answer: [u32; 6]) -> Choice {
+    let [_, _, diversity, cost, _, spare] = answer;
+    let marks = work.marks[..outline.records().len()].to_vec();
+    let chosen = outline
+        .records()
+        .zip(&marks)
+        .filter(|(_, mark)| **mark == 1);
+    let taxa = chosen.map(|(record, _)| record).collect();
+    let columns = (0..=count).zip(work.curve.chunks_exact(2));
+    let curve = columns.map(|(count, column)| Column {
+        count,
+        diversity: column[0],
+        cost: column[1],
+    });
+    Choice {
+        diversity,
+        cost,
+        spare,
+        taxa,
+        curve: curve.collect(),
+        marks,
+    }
+}

@@ -1,0 +1,55 @@
+//! Plates chooses which species plates go into a field guide of a given page count, so that they
+//! show as much of the family tree as the space allows.
+//!
+//! The caller gives the tree, with a length for each branch and a price in quarter pages for each
+//! taxon's plate, and a page count. The library gives the set of taxa with the most diversity for
+//! that count, and the best that can be reached for every smaller count. It is not a heuristic:
+//! among all the sets that fit, no other is better. In the literature the problem is called
+//! phylogenetic diversity under a budget (Pardi and Goldman, Systematic Biology 56(3), 2007).
+//!
+//! A [`Tree`] is built by nesting and makes an [`Outline`], which is checked once. [`choose`] gives
+//! a [`Choice`] for an outline, a page count and a [`Way`].
+//!
+//! ```
+//! use plates::{choose, Tree, Way};
+//!
+//! // Branch lengths on the tree, then each taxon's plate and its price:
+//! //
+//! //     --+--3--+--4--  plate 11, 3 quarters
+//! //       |     +--2--  plate 12, 1 quarter
+//! //       +--5--------  plate 13, 2 quarters
+//! let outline = Tree::group(0, [
+//!     Tree::group(3, [Tree::taxon(11, 4, 3), Tree::taxon(12, 2, 1)]),
+//!     Tree::taxon(13, 5, 2),
+//! ])
+//! .outline()?;
+//!
+//! let choice = choose(&outline, 5, Way::Rooted)?;
+//! let plates: Vec<u32> = choice.taxa().iter().map(|taxon| taxon.plate).collect();
+//! assert_eq!(plates, [11, 13]);
+//! assert_eq!((choice.diversity(), choice.cost()), (12, 5));
+//! # Ok::<(), Box<dyn std::error::Error>>(())
+//! ```
+//!
+//! All of it may be called from several threads at the same time. The library itself keeps no state
+//! and allocates nothing; the memory of a call is taken here, and callers who choose often keep it
+//! in a [`Work`].
+
+#![deny(missing_docs)]
+#![deny(unsafe_op_in_unsafe_fn)]
+
+mod choice;
+mod outline;
+mod refusal;
+pub mod sys;
+mod tree;
+
+pub use choice::{choose, choose_in, Choice, Column, Way, Work, MOST_COUNT};
+pub use outline::{Outline, Record, MOST_RECORDS, MOST_TAXA, RECORD_BYTES};
+pub use refusal::Refusal;
+pub use tree::{Tree, TreeError};
+
+/// Runs the example of the README.
+#[cfg(doctest)]
+#[doc = include_str!("../README.md")]
+pub struct Readme;

@@ -1,0 +1,96 @@
+//! The C interface as it is, for callers who lend the buffers themselves, and how long these have
+//! to be.
+//!
+//! What each function gives and writes is said in `plates.h`. In short: pointers are not null (also
+//! where a length is 0), each points to as many elements as its length says and is aligned for
+//! them, and no two of them overlap. Nothing else is asked of the caller, whatever the outline
+//! holds.
+//!
+//! ```
+//! use plates::sys;
+//!
+//! // One taxon: plate 7, length 5, price 1.
+//! let outline = [0, 0, 0, 0, 5, 0, 0, 0, 1, 0, 0, 0, 7, 0, 0, 0];
+//! let mut marks = [0; 1];
+//! let mut curve = [0; sys::curve_len(1)];
+//! let mut work = [0; sys::work_len(1, 1)];
+//! let mut answer = [0; 6];
+//! // SAFETY: each pointer is that of an array of the length beside it, and no two overlap.
+//! let number = unsafe {
+//!     sys::plates_choose(
+//!         outline.as_ptr(),
+//!         outline.len(),
+//!         1,
+//!         0,
+//!         marks.as_mut_ptr(),
+//!         marks.len(),
+//!         curve.as_mut_ptr(),
+//!         curve.len(),
+//!         work.as_mut_ptr(),
+//!         work.len(),
+//!         answer.as_mut_ptr(),
+//!     )
+//! };
+//! assert_eq!(number, 0);
+//! assert_eq!(answer, [0, 0, 5, 1, 1, 0]);
+//! assert_eq!(marks, [1]);
+//! assert_eq!(curve, [0, 0, 5, 1]);
+//! ```
+
+extern "C" {
+    /// Gives 0 or the number of the refusal of an outline, and writes its place.
+    ///
+    /// # Safety
+    ///
+    /// `outline` can be read for `outline_len` bytes and `place` can be written; neither is null,
+    /// `place` is aligned, and they do not overlap.
+    pub fn plates_check(outline: *const u8, outline_len: usize, place: *mut u32) -> u32;
+
+    /// Gives the record number of the taxon that has a plate; 0 if none has, or the outline is
+    /// refused.
+    ///
+    /// # Safety
+    ///
+    /// `outline` can be read for `outline_len` bytes and is not null.
+    pub fn plates_find(outline: *const u8, outline_len: usize, plate: u32) -> u32;
+
+    /// Chooses the best taxa for a page count: gives 0 or the refusal's number, and writes the six
+    /// numbers of `answer` (number, place, diversity, cost, taxa, spare). Unless it refuses, it
+    /// also writes `marks` and `curve`, and leaves `work` cleared.
+    ///
+    /// # Safety
+    ///
+    /// `outline` can be read for `outline_len` bytes. `marks`, `curve`, `work` and `answer` can be
+    /// written for `marks_len`, `curve_len`, `work_len` and 6 elements. None of the pointers is
+    /// null, each is aligned for its elements, and no two of the five overlap.
+    pub fn plates_choose(
+        outline: *const u8,
+        outline_len: usize,
+        count: u32,
+        way: u32,
+        marks: *mut u8,
+        marks_len: usize,
+        curve: *mut u32,
+        curve_len: usize,
+        work: *mut u64,
+        work_len: usize,
+        answer: *mut u32,
+    ) -> u32;
+}
+
+/// How many bytes of marks choosing needs.
+pub const fn marks_len(records: usize) -> usize {
+    records
+}
+
+/// How many numbers of curve choosing needs, for a count of at most
+/// [`MOST_COUNT`](crate::MOST_COUNT).
+pub const fn curve_len(count: u32) -> usize {
+    2 * (count as usize + 1)
+}
+
+/// How many numbers of work choosing needs, for at most [`MOST_RECORDS`](crate::MOST_RECORDS)
+/// records and a count of at most [`MOST_COUNT`](crate::MOST_COUNT).
+pub const fn work_len(records: usize, count: u32) -> usize {
+    4 * (records + 2) * (count as usize + 1)
+}

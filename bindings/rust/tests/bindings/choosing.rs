@@ -1,0 +1,103 @@
+//! What holds of every choice, memory that is used again, calls at the same time, and a small
+//! stack.
+
+use crate::support::{chain, pairs, sound, star, tree_a};
+use plates::{choose, choose_in, Outline, Refusal, Tree, Way, Work, MOST_COUNT, MOST_RECORDS};
+use std::thread;
+
+const WAYS: [Way; 2] = [Way::Rooted, Way::Unrooted];
+
+/// Outlines of different sizes, larger and smaller in turn.
+fn outlines() -> [Outline; 5] {
+    let uneven = Tree::group(
+        2,
+        [
+            Tree::taxon(5, 3, 4),
+            Tree::group(1, [star(&[(2, 1), (9, 6)]), Tree::taxon(6, 4, 0)]),
+            Tree::taxon(7, 8, 5),
+        ],
+    );
+    [
+        tree_a(),
+        sound(pairs(6, 3, 1)),
+        sound(Tree::taxon(1, 1, 1)),
+        sound(uneven),
+        sound(star(&[(4, 1); 64])),
+    ]
+}
+
+#[test]
+fn numbers_are_those_of_the_taxa() {
+    for outline in outlines() {
+        for way in WAYS {
+            let choice = choose(&outline, 12, way).unwrap();
+            let prices = choice.taxa().iter().map(|taxon| taxon.price);
+            assert_eq!(choice.cost(), prices.sum::<u32>());
+            assert_eq!(choice.spare(), 12 - choice.cost());
+            for (record, mark) in outline.records().zip(choice.marks()) {
+                assert_eq!(choice.taxa().contains(&record), *mark == 1);
+            }
+            assert_eq!(choice.marks().len(), outline.records().len());
+        }
+    }
+}
+
+#[test]
+fn each_column_is_the_choice_for_its_count() {
+    for outline in outlines() {
+        for way in WAYS {
+            let whole = choose(&outline, 20, way).unwrap();
+            for column in whole.curve() {
+                let choice = choose(&outline, column.count, way).unwrap();
+                assert_eq!(choice.diversity(), column.diversity);
+                assert_eq!(choice.cost(), column.cost);
+            }
+        }
+    }
+}
+
+#[test]
+fn memory_used_again_changes_nothing() {
+    let mut work = Work::new();
+    for count in [0, 300, 7, 40] {
+        for outline in outlines() {
+            for way in WAYS {
+                let again = choose_in(&outline, count, way, &mut work);
+                assert_eq!(again, choose(&outline, count, way));
+            }
+        }
+        let refused = choose_in(&tree_a(), MOST_COUNT + 1, Way::Rooted, &mut work);
+        assert_eq!(refused, Err(Refusal::CountTooLarge));
+    }
+}
+
+#[test]
+fn memory_shows_no_contents() {
+    assert_eq!(format!("{:?}", Work::new()), "Work { .. }");
+}
+
+#[test]
+fn threads_choose_at_the_same_time() {
+    let outline = sound(pairs(6, 3, 1));
+    let expected = WAYS.map(|way| choose(&outline, 500, way).unwrap());
+    let repeat = || {
+        for _ in 0..5 {
+            let chosen = WAYS.map(|way| choose(&outline, 500, way).unwrap());
+            assert_eq!(chosen, expected);
+        }
+    };
+    thread::scope(|scope| {
+        for _ in 0..8 {
+            scope.spawn(repeat);
+        }
+    });
+}
+
+#[test]
+fn deepest_outline_needs_little_stack() {
+    let outline = sound(chain(MOST_RECORDS));
+    let run = move || WAYS.map(|way| choose(&outline, MOST_COUNT, way).unwrap().diversity());
+    let small = thread::Builder::new().stack_size(64 * 1024);
+    let diversities = small.spawn(run).unwrap().join().unwrap();
+    assert_eq!(diversities, [127, 0]);
+}

@@ -1,0 +1,248 @@
+//! Every refusal: through the safe interface where it can arise there, else through the C
+//! interface.
+
+use crate::support::{bytes, tree_a, Fields, TREE_A};
+use plates::{choose, sys, Outline, Refusal, Way};
+use std::error::Error;
+
+fn refused(records: &[Fields]) -> Refusal {
+    Outline::from_bytes(&bytes(records)).expect_err("the outline isn't sound")
+}
+
+/// Tree A with one field changed.
+fn changed(record: usize, field: usize, value: u32) -> Vec<Fields> {
+    let mut records = TREE_A.to_vec();
+    records[record - 1][field] = value;
+    records
+}
+
+/// A root with taxa, and plates from 1.
+fn star(taxa: u32) -> Vec<Fields> {
+    let last = taxa + 1;
+    let taxon = |number| {
+        [
+            if number < last { number + 1 } else { 0 },
+            0,
+            1,
+            1,
+            number - 1,
+        ]
+    };
+    let root = [0, 2, 0, 0, 0];
+    std::iter::once(root).chain((2..=last).map(taxon)).collect()
+}
+
+/// The buffers of a call for tree A, each full of a value that no call writes.
+struct Buffers {
+    marks: Vec<u8>,
+    curve: Vec<u32>,
+    work: Vec<u64>,
+}
+
+impl Buffers {
+    fn new(marks: usize, curve: usize, work: usize) -> Buffers {
+        Buffers {
+            marks: vec![0xa5; marks],
+            curve: vec![0xa5a5_a5a5; curve],
+            work: vec![0xa5a5_a5a5_a5a5_a5a5; work],
+        }
+    }
+
+    fn choose(&mut self, outline: &[u8], count: u32, way: u32) -> [u32; 6] {
+        let mut answer = [0xa5a5_a5a5; 6];
+        // SAFETY: each pointer and the length after it are those of one slice or vector, answer has
+        // six numbers, and no two overlap.
+        let number = unsafe {
+            sys::plates_choose(
+                outline.as_ptr(),
+                outline.len(),
+                count,
+                way,
+                self.marks.as_mut_ptr(),
+                self.marks.len(),
+                self.curve.as_mut_ptr(),
+                self.curve.len(),
+                self.work.as_mut_ptr(),
+                self.work.len(),
+                answer.as_mut_ptr(),
+            )
+        };
+        assert_eq!(number, answer[0]);
+        answer
+    }
+
+    fn is_untouched(&self) -> bool {
+        self.marks.iter().all(|byte| *byte == 0xa5)
+            && self.curve.iter().all(|number| *number == 0xa5a5_a5a5)
+            && self
+                .work
+                .iter()
+                .all(|number| *number == 0xa5a5_a5a5_a5a5_a5a5)
+    }
+}
+
+#[test]
+fn unknown_way() {
+    for way in [2, 3, u32::MAX] {
+        let mut buffers = Buffers::new(5, 12, 168);
+        assert_eq!(
+            buffers.choose(tree_a().as_bytes(), 5, way),
+            [1, 0, 0, 0, 0, 0]
+        );
+        assert!(buffers.is_untouched());
+    }
+}
+
+#[test]
+fn partial_record() {
+    let whole = bytes(&TREE_A);
+    for len in [0, 1, 15, 17, 79] {
+        assert_eq!(
+            Outline::from_bytes(&whole[..len]),
+            Err(Refusal::PartialRecord)
+        );
+    }
+}
+
+#[test]
+fn too_many_records() {
+    assert_eq!(refused(&[[0; 5]; 128]), Refusal::TooManyRecords);
+    assert_eq!(
+        refused(&[[0; 5]; 127]),
+        Refusal::FieldOutOfRange { record: 1 }
+    );
+}
+
+#[test]
+fn count_too_large() {
+    for count in [4_097, 65_536, u32::MAX] {
+        for way in [Way::Rooted, Way::Unrooted] {
+            assert_eq!(choose(&tree_a(), count, way), Err(Refusal::CountTooLarge));
+        }
+    }
+}
+
+#[test]
+fn field_out_of_range() {
+    let taxon_faults = [(2, 1_000_001), (3, 65_536), (4, 0)];
+    for (field, value) in taxon_faults {
+        assert_eq!(
+            refused(&changed(4, field, value)),
+            Refusal::FieldOutOfRange { record: 4 }
+        );
+    }
+    let group_faults = [(2, 1_000_001), (3, 1), (4, 1)];
+    for (field, value) in group_faults {
+        assert_eq!(
+            refused(&changed(2, field, value)),
+            Refusal::FieldOutOfRange { record: 2 }
+        );
+    }
+}
+
+#[test]
+fn bad_link() {
+    let faults = [
+        // record, field, value, place
+        (1, 0, 2, 1), // the root has a next
+        (3, 0, 3, 3), // to itself
+        (3, 0, 2, 2), // to an earlier record, which is then named twice
+        (3, 0, 6, 3), // past the last record
+        (3, 0, 0, 4), // record 4 is named by no link
+        (4, 0, 5, 5), // record 5 is named twice
+        (1, 1, 3, 2), // record 2 is named by no link
+    ];
+    for (record, field, value, place) in faults {
+        assert_eq!(
+            refused(&changed(record, field, value)),
+            Refusal::BadLink { record: place }
+        );
+    }
+}
+
+#[test]
+fn too_many_taxa() {
+    assert_eq!(refused(&star(65)), Refusal::TooManyTaxa);
+    assert!(Outline::from_bytes(&bytes(&star(64))).is_ok());
+}
+
+#[test]
+fn duplicate_plate() {
+    assert_eq!(
+        refused(&changed(5, 4, 12)),
+        Refusal::DuplicatePlate { record: 5 }
+    );
+}
+
+#[test]
+fn buffer_too_short() {
+    let (marks, curve, work) = (sys::marks_len(5), sys::curve_len(5), sys::work_len(5, 5));
+    let short = [
+        (marks - 1, curve, work),
+        (marks, curve - 1, work),
+        (marks, curve, work - 1),
+    ];
+    for (marks, curve, work) in short {
+        let mut buffers = Buffers::new(marks, curve, work);
+        assert_eq!(buffers.choose(&bytes(&TREE_A), 5, 0), [9, 0, 0, 0, 0, 0]);
+        assert!(buffers.is_untouched());
+    }
+    let mut buffers = Buffers::new(marks, curve, work);
+    assert_eq!(buffers.choose(&bytes(&TREE_A), 5, 0), [0, 0, 12, 5, 2, 0]);
+}
+
+#[test]
+fn longer_buffers_keep_the_rest() {
+    let mut buffers = Buffers::new(8, 20, 200);
+    assert_eq!(buffers.choose(&bytes(&TREE_A), 5, 0)[0], 0);
+    let rest = Buffers::new(3, 8, 32);
+    assert_eq!(buffers.marks[..5], [0, 0, 1, 0, 1]);
+    assert_eq!(buffers.marks[5..], rest.marks);
+    assert_eq!(buffers.curve[..12], [0, 0, 5, 1, 5, 1, 10, 3, 10, 3, 12, 5]);
+    assert_eq!(buffers.curve[12..], rest.curve);
+    assert_eq!(buffers.work[..168], [0; 168]);
+    assert_eq!(buffers.work[168..], rest.work);
+}
+
+#[test]
+fn first_that_holds_is_given() {
+    let mut records = star(65);
+    records[65] = [1, 0, 1, 1, 1];
+    let broken = bytes(&records);
+    let judge = |outline: &[u8], count, way| Buffers::new(0, 0, 0).choose(outline, count, way);
+    assert_eq!(judge(&[], 5_000, 2)[..2], [1, 0]);
+    assert_eq!(judge(&[], 5_000, 1)[..2], [2, 0]);
+    assert_eq!(judge(&[0; 2_048], 5_000, 1)[..2], [3, 0]);
+    assert_eq!(judge(&broken, 5_000, 1)[..2], [4, 0]);
+    records[64][3] = 65_536;
+    assert_eq!(judge(&bytes(&records), 0, 1)[..2], [5, 65]);
+    assert_eq!(judge(&broken, 0, 1)[..2], [6, 66]);
+    records = star(65);
+    records[65][4] = 1;
+    assert_eq!(judge(&bytes(&records), 0, 1)[..2], [7, 0]);
+    assert_eq!(judge(&bytes(&changed(4, 4, 11)), 0, 1)[..2], [8, 4]);
+}
+
+#[test]
+fn numbers_and_places() {
+    for number in 1..=9 {
+        let refusal = Refusal::from_parts(number, 7).expect("nine refusals");
+        assert_eq!(refusal.number(), number);
+        let has_place = [5, 6, 8].contains(&number);
+        assert_eq!(refusal.place(), has_place.then_some(7));
+    }
+    for number in [0, 10, u32::MAX] {
+        assert_eq!(Refusal::from_parts(number, 0), None);
+    }
+}
+
+#[test]
+fn refusals_are_errors_with_a_sentence() {
+    let error: Box<dyn Error> = Box::new(Refusal::DuplicatePlate { record: 5 });
+    assert_eq!(
+        error.to_string(),
+        "record 5: an earlier taxon has the same plate"
+    );
+    let count = Refusal::CountTooLarge.to_string();
+    assert_eq!(count, "the page count is above 4096 quarters");
+}

@@ -1,0 +1,61 @@
+//! Trees and bytes that several tests use.
+
+use plates::{Choice, Outline, Tree};
+
+/// The fields of a record: next, first, length, price, plate.
+pub type Fields = [u32; 5];
+
+pub const TREE_A: [Fields; 5] = [
+    [0, 2, 0, 0, 0],
+    [5, 3, 3, 0, 0],
+    [4, 0, 4, 3, 11],
+    [0, 0, 2, 1, 12],
+    [0, 0, 5, 2, 13],
+];
+
+/// The bytes of records, sound or not. Links keep their two low bytes.
+pub fn bytes(records: &[Fields]) -> Vec<u8> {
+    let mut bytes = Vec::new();
+    for [next, first, length, price, plate] in records {
+        bytes.extend(&next.to_le_bytes()[..2]);
+        bytes.extend(&first.to_le_bytes()[..2]);
+        for field in [length, price, plate] {
+            bytes.extend(field.to_le_bytes());
+        }
+    }
+    bytes
+}
+
+pub fn tree_a() -> Outline {
+    Outline::from_bytes(&bytes(&TREE_A)).expect("tree A is sound")
+}
+
+/// Taxa under a root of length 0, with lengths and prices as given, and plates from 1.
+pub fn star(taxa: &[(u32, u32)]) -> Tree {
+    let numbered = (1..).zip(taxa);
+    let members = numbered.map(|(plate, (length, price))| Tree::taxon(plate, *length, *price));
+    Tree::group(0, members)
+}
+
+/// Levels of pairs, every length 1, every price the same, plates from `plate` on.
+pub fn pairs(levels: u32, price: u32, plate: u32) -> Tree {
+    if levels == 0 {
+        return Tree::taxon(plate, 1, price);
+    }
+    let half = 1 << (levels - 1);
+    let members = [plate, plate + half].map(|plate| pairs(levels - 1, price, plate));
+    Tree::group(1, members)
+}
+
+/// One taxon below a chain of groups: as deep as a tree of so many records can be.
+pub fn chain(records: usize) -> Tree {
+    (1..records).fold(Tree::taxon(1, 1, 1), |below, _| Tree::group(1, [below]))
+}
+
+pub fn sound(tree: Tree) -> Outline {
+    tree.outline().expect("the tree is sound")
+}
+
+pub fn plates(choice: &Choice) -> Vec<u32> {
+    choice.taxa().iter().map(|taxon| taxon.plate).collect()
+}

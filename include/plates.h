@@ -1,0 +1,311 @@
+/*
+ * plates.h: the C interface of Plates.
+ *
+ * Plates chooses which species plates go into a field guide of a given page count, so that they show as much of the family
+ * tree as the space allows. The caller hands over the tree with a length for each branch and a price for each plate, and a
+ * page count. The library gives the best set of plates for that count, and for every smaller count the best that can be
+ * reached. It is not a heuristic: among all the sets that fit, no other is better. In the literature the problem is called
+ * phylogenetic diversity under a budget (Pardi and Goldman, Systematic Biology 56(3), 2007).
+ *
+ *     plates_check    whether an outline is sound, and if not what is wrong and where
+ *     plates_find     the record of the taxon that has a given plate
+ *     plates_choose   the best taxa for a page count
+ *
+ * Link with libplates.a (-lplates). It needs nothing but memset, which every C library has.
+ *
+ * Words
+ *
+ *     taxon      a species with a plate
+ *     group      a node of the tree with members below it: groups or taxa
+ *     length     the length of the branch above a taxon or a group, a whole number
+ *     quarter    a quarter page, the unit of prices and of page counts
+ *     outline    the tree, as an array of records
+ *
+ *
+ * THE OUTLINE
+ *
+ * An outline is N records of 16 bytes, one after the other, numbered from 1. Record 1 is the root. All fields are unsigned,
+ * least significant byte first on every machine.
+ *
+ *     bytes     field    taxon                    group
+ *     0 to 1    next     the next member under the same group, 0 for the last one; record 1: 0
+ *     2 to 3    first    0                        the group's first member
+ *     4 to 7    length   0 to 1,000,000           0 to 1,000,000
+ *     8 to 11   price    0 to 65,535 quarters     0
+ *     12 to 15  plate    1 to 4,294,967,295       0
+ *
+ * So a record whose first is 0 is a taxon, and every other record is a group.
+ *
+ * Limits: 1 to 127 records, at most 64 taxa, no two taxa with the same plate. A page count is 0 to 4,096 quarters.
+ *
+ * Links: a link (next or first) that is not 0 names a later record, so it is greater than the number of the record it stands
+ * in, and at most N. Each record but record 1 is named by exactly one link. A group may have any number of members, one
+ * included. Numbering the records depth first, each group before its members, always gives such links.
+ *
+ * The order of the records matters in one way only: between sets that are equal otherwise, it decides (see below).
+ *
+ * Example, "tree A". The number on a branch is its length, the one in brackets is the record's:
+ *
+ *     [1]--+--3--[2]--+--4--[3]  plate 11, 3 quarters
+ *          |          |
+ *          |          +--2--[4]  plate 12, 1 quarter
+ *          |
+ *          +--5--[5]  plate 13, 2 quarters
+ *
+ *     record  next  first  length  price  plate
+ *        1      0      2       0      0      0      the root, with members 2 and 5
+ *        2      5      3       3      0      0      a group, with members 3 and 4; the next beside it is 5
+ *        3      4      0       4      3     11
+ *        4      0      0       2      1     12      the last member of group 2
+ *        5      0      0       5      2     13      the last member of group 1
+ *
+ * Record 3 in bytes (hexadecimal; it begins at byte 32 of the 80 that tree A has):
+ *
+ *     04 00   00 00   04 00 00 00   03 00 00 00   0b 00 00 00
+ *     next    first   length        price         plate
+ *
+ * plates_put_record writes such a record.
+ *
+ *
+ * WHAT IS BEST
+ *
+ * The diversity of a set of taxa is a sum of branch lengths, each branch counted once:
+ *
+ *     PLATES_ROOTED (way 0)     the lengths of all records that are, or have below them, a chosen taxon. This is the part of
+ *                               the tree that joins the chosen taxa and the root; the root's own length counts.
+ *     PLATES_UNROOTED (way 1)   the lengths of all records with a chosen taxon at or below them and another one elsewhere.
+ *                               This is the part of the tree that joins the chosen taxa to each other; for one taxon it is 0.
+ *
+ * The empty set has diversity 0 either way. The cost of a set is the sum of its prices, and a set fits a page count if its
+ * cost is at most the count. Of two sets that fit, the better one is
+ *
+ *     1. the one with more diversity;
+ *     2. at equal diversity the one that costs less;
+ *     3. at equal cost too, the one that has the lowest-numbered taxon on which they differ.
+ *
+ * So there is exactly one best set for each outline, way and count, and every call gives it. A taxon of price 0 is always
+ * chosen. The best set may be empty: that is a selection too, and not a refusal.
+ *
+ * In tree A with 5 quarters, rooted, the best set is plates 11 and 13: diversity 3 + 4 + 5 = 12, cost 3 + 2 = 5. For the
+ * counts from 0 to 5 the best diversities are 0, 5, 5, 10, 10, 12, and their costs 0, 1, 1, 3, 3, 5. At count 2 that is plate
+ * 12 (3 + 2 = 5 for 1 quarter) and not plate 13 (5 for 2 quarters).
+ *
+ *
+ * WHAT THE CALLER HAS TO KEEP
+ *
+ * - No pointer is null, not even where the length is 0, and each points to at least as many elements as its length says.
+ *   Lengths are numbers of elements: outline_len and marks_len in bytes, curve_len in uint32_t, work_len in uint64_t.
+ *   answer has 6 elements, place has 1.
+ * - Each buffer is aligned as its element type asks. outline and marks may begin at any byte.
+ * - No buffer overlaps another one or the outline; answer and place count as buffers.
+ * - While a call runs, nobody else writes the outline, and nobody else reads or writes the other buffers.
+ *
+ * What stands in marks, curve, work, answer and place before a call makes no difference; they need not be initialised.
+ *
+ *
+ * WHAT THE LIBRARY KEEPS
+ *
+ * - Any bytes may be handed over as an outline, and any numbers as count, way and lengths: what is not sound is refused, and a
+ *   refusal of the table below is the only way for a call to fail.
+ * - Nothing is allocated, no file is touched, and there is no global state. Calls on different buffers may run at the same
+ *   time, and may share an outline.
+ * - Nothing is written but what is named at each function. The outline is never written.
+ * - The time of a call is bounded. That of plates_choose grows linearly with the count; checking and finding take at most a few
+ *   steps for each pair of records.
+ * - Little stack is used, since the table stands in work: calls nest no deeper than there are records, which takes less than
+ *   64 KB on x86-64 for the deepest outlines.
+ */
+#ifndef PLATES_H
+#define PLATES_H
+
+#include <stddef.h>
+#include <stdint.h>
+
+#ifdef __cplusplus
+#define PLATES_CAST_(type, value) static_cast<type>(value)
+extern "C" {
+#else
+#define PLATES_CAST_(type, value) ((type)(value))
+#endif
+
+#define PLATES_VERSION "0.1.0"
+
+/* Limits. */
+#define PLATES_RECORD_BYTES 16
+#define PLATES_MOST_RECORDS 127
+#define PLATES_MOST_TAXA 64
+#define PLATES_MOST_COUNT 4096
+#define PLATES_MOST_LENGTH 1000000
+#define PLATES_MOST_PRICE 65535
+
+/*
+ * How many elements each buffer has to have. They are constant expressions where their arguments are, so that they can size an
+ * array. The arguments have to be within the limits: a count above PLATES_MOST_COUNT is refused whatever the buffers are.
+ *
+ *     outline   bytes       PLATES_OUTLINE_LEN(records)
+ *     marks     bytes       PLATES_MARKS_LEN(records)
+ *     curve     uint32_t    PLATES_CURVE_LEN(count)
+ *     work      uint64_t    PLATES_WORK_LEN(records, count)
+ *     answer    uint32_t    PLATES_ANSWER_LEN, see below
+ */
+#define PLATES_OUTLINE_LEN(records) (PLATES_CAST_(size_t, PLATES_RECORD_BYTES) * PLATES_CAST_(size_t, records))
+#define PLATES_MARKS_LEN(records) PLATES_CAST_(size_t, records)
+#define PLATES_CURVE_LEN(count) (PLATES_CAST_(size_t, 2) * (PLATES_CAST_(size_t, count) + 1))
+#define PLATES_WORK_LEN(records, count) \
+    (PLATES_CAST_(size_t, 4) * (PLATES_CAST_(size_t, records) + 2) * (PLATES_CAST_(size_t, count) + 1))
+
+/* The same for the largest outline and the largest count: enough for every call. The most work is 16,912,416 bytes, more than a
+ * usual stack has. */
+#define PLATES_MOST_OUTLINE_LEN PLATES_OUTLINE_LEN(PLATES_MOST_RECORDS)
+#define PLATES_MOST_MARKS_LEN PLATES_MARKS_LEN(PLATES_MOST_RECORDS)
+#define PLATES_MOST_CURVE_LEN PLATES_CURVE_LEN(PLATES_MOST_COUNT)
+#define PLATES_MOST_WORK_LEN PLATES_WORK_LEN(PLATES_MOST_RECORDS, PLATES_MOST_COUNT)
+
+/* The ways, as plates_choose takes them. */
+enum plates_way {
+    PLATES_ROOTED = 0,
+    PLATES_UNROOTED = 1
+};
+
+/*
+ * What the functions give: PLATES_OK or a refusal. They are judged in this order, and the first that holds is given. A refusal
+ * has a place: the number of the record at fault, from 1, or 0 where no one record is.
+ */
+enum plates_refusal {
+    /* The call is accepted; place 0. */
+    PLATES_OK = 0,
+    /* The way is neither 0 nor 1; place 0. */
+    PLATES_UNKNOWN_WAY = 1,
+    /* The outline's length is 0 or no multiple of 16; place 0. */
+    PLATES_PARTIAL_RECORD = 2,
+    /* The outline has more than 127 records; place 0. */
+    PLATES_TOO_MANY_RECORDS = 3,
+    /* The page count is above 4,096; place 0. */
+    PLATES_COUNT_TOO_LARGE = 4,
+    /* Length, price or plate is outside its range; place is the lowest such record. */
+    PLATES_FIELD_OUT_OF_RANGE = 5,
+    /* A link of the record is not 0 and not the number of a later record; or it is record 1 and its next is not 0; or it is
+     * another record and no link names it, or more than one does. place is the lowest such record. */
+    PLATES_BAD_LINK = 6,
+    /* The outline has more than 64 taxa; place 0. */
+    PLATES_TOO_MANY_TAXA = 7,
+    /* An earlier taxon has the same plate; place is the lowest such record, so the later of the two. */
+    PLATES_DUPLICATE_PLATE = 8,
+    /* marks, curve or work is shorter than PLATES_MARKS_LEN, PLATES_CURVE_LEN or PLATES_WORK_LEN says; place 0. */
+    PLATES_BUFFER_TOO_SHORT = 9
+};
+
+/* What stands where in the answer of plates_choose. */
+enum plates_answer {
+    /* The refusal's number or PLATES_OK: the same that the call gives. */
+    PLATES_ANSWER_NUMBER = 0,
+    /* The refusal's place; 0 for a selection. */
+    PLATES_ANSWER_PLACE = 1,
+    /* The diversity of the best set. This and all that follow are 0 for a refusal. */
+    PLATES_ANSWER_DIVERSITY = 2,
+    /* Its cost in quarters. */
+    PLATES_ANSWER_COST = 3,
+    /* The number of taxa in it. */
+    PLATES_ANSWER_TAXA = 4,
+    /* How many quarters the page count could be lower at the same diversity: the page count minus the cost. */
+    PLATES_ANSWER_SPARE = 5,
+    /* The number of elements. */
+    PLATES_ANSWER_LEN = 6
+};
+
+/*
+ * Whether an outline is sound.
+ *
+ * Gives PLATES_OK, or the first of refusals 2, 3 and 5 to 8 that holds (1, 4 and 9 concern choosing only). *place is written in
+ * any case: the refusal's place, 0 for PLATES_OK.
+ */
+uint32_t plates_check(const uint8_t *outline, size_t outline_len, uint32_t *place);
+
+/*
+ * The number of the record of the taxon that has a plate, from 1. 0 if no taxon has it, or if plates_check refuses the outline.
+ */
+uint32_t plates_find(const uint8_t *outline, size_t outline_len, uint32_t plate);
+
+/*
+ * Chooses the best set of taxa for a page count.
+ *
+ * Gives PLATES_OK or a refusal, and writes all six elements of answer in any case. On PLATES_OK, for N records and a count B:
+ *
+ *     marks   the first N: for each record 1 if it is a chosen taxon, else 0; record r stands at marks[r - 1]
+ *     curve   the first 2 * (B + 1): for each count b from 0 to B the best diversity at curve[2 * b], and its cost at
+ *             curve[2 * b + 1]
+ *     work    the first 4 * (N + 2) * (B + 1): all 0
+ *
+ * Elements beyond these stay as they were, so a buffer may be longer than needed. On a refusal marks, curve and work all stay
+ * as they were.
+ */
+uint32_t plates_choose(const uint8_t *outline, size_t outline_len, uint32_t count, uint32_t way,
+                       uint8_t *marks, size_t marks_len, uint32_t *curve, size_t curve_len,
+                       uint64_t *work, size_t work_len, uint32_t answer[6]);
+
+/* A number in one to four bytes, least significant first. For the functions below. */
+static inline void plates_put_field_(uint8_t *at, size_t bytes, uint32_t value) {
+    size_t k;
+    for (k = 0; k < bytes; k++) {
+        at[k] = PLATES_CAST_(uint8_t, value & 0xffu);
+        value >>= 8;
+    }
+}
+
+static inline uint32_t plates_field_(const uint8_t *at, size_t bytes) {
+    uint32_t value = 0;
+    while (bytes != 0) {
+        bytes--;
+        value = value << 8 | at[bytes];
+    }
+    return value;
+}
+
+/*
+ * Writes record `record` (from 1) into an outline that has room for it: PLATES_OUTLINE_LEN(record) bytes. Judges nothing.
+ */
+static inline void plates_put_record(uint8_t *outline, size_t record, uint16_t next, uint16_t first,
+                                     uint32_t length, uint32_t price, uint32_t plate) {
+    uint8_t *at = outline + PLATES_OUTLINE_LEN(record - 1);
+    plates_put_field_(at, 2, next);
+    plates_put_field_(at + 2, 2, first);
+    plates_put_field_(at + 4, 4, length);
+    plates_put_field_(at + 8, 4, price);
+    plates_put_field_(at + 12, 4, plate);
+}
+
+/* The fields of record `record` (from 1), which the outline has to have. */
+static inline uint32_t plates_record_next(const uint8_t *outline, size_t record) {
+    return plates_field_(outline + PLATES_OUTLINE_LEN(record - 1), 2);
+}
+
+static inline uint32_t plates_record_first(const uint8_t *outline, size_t record) {
+    return plates_field_(outline + PLATES_OUTLINE_LEN(record - 1) + 2, 2);
+}
+
+static inline uint32_t plates_record_length(const uint8_t *outline, size_t record) {
+    return plates_field_(outline + PLATES_OUTLINE_LEN(record - 1) + 4, 4);
+}
+
+static inline uint32_t plates_record_price(const uint8_t *outline, size_t record) {
+    return plates_field_(outline + PLATES_OUTLINE_LEN(record - 1) + 8, 4);
+}
+
+static inline uint32_t plates_record_plate(const uint8_t *outline, size_t record) {
+    return plates_field_(outline + PLATES_OUTLINE_LEN(record - 1) + 12, 4);
+}
+
+/* The curve's two numbers for a count, which has to be at most the page count that was chosen for. */
+static inline uint32_t plates_curve_diversity(const uint32_t *curve, size_t count) {
+    return curve[2 * count];
+}
+
+static inline uint32_t plates_curve_cost(const uint32_t *curve, size_t count) {
+    return curve[2 * count + 1];
+}
+
+#ifdef __cplusplus
+}
+#endif
+
+#endif

@@ -1,0 +1,271 @@
+//! The comparison of what was expected of a call with what was observed.
+
+use crate::expect::Expected;
+use crate::frame::difference;
+use crate::library::{CheckObserved, ChooseObserved, FindObserved};
+use crate::rules::Refusal;
+
+/// The differences found, and how many numbers and bytes were compared.
+#[derive(Debug, PartialEq, Eq)]
+pub struct Comparison {
+    pub differences: Vec<String>,
+    pub values: usize,
+}
+
+fn returned(expected: u32, got: u32) -> Option<String> {
+    (expected != got).then(|| format!("returned: expected {expected}, got {got}"))
+}
+
+pub fn choose(expected: &Expected, observed: &ChooseObserved) -> Comparison {
+    let (before, after) = (&observed.before, &observed.after);
+    let cleared = vec![0; expected.work];
+    let mut differences: Vec<String> = [
+        returned(expected.answer[0], observed.returned),
+        difference("answer", &before.answer, &after.answer, &expected.answer),
+        difference("outline", &before.outline, &after.outline, &[]),
+        difference("marks", &before.marks, &after.marks, &expected.marks),
+        difference("curve", &before.curve, &after.curve, &expected.curve),
+        difference("work", &before.work, &after.work, &cleared),
+    ]
+    .into_iter()
+    .flatten()
+    .collect();
+    if after.answer.content() != expected.answer {
+        differences.push(format!(
+            "number, place, diversity, cost, taxa, spare: expected {:?}, got {:?}",
+            expected.answer,
+            after.answer.content()
+        ));
+    }
+    let values = 1
+        + after.answer.cells.len()
+        + after.outline.cells.len()
+        + after.marks.cells.len()
+        + after.curve.cells.len()
+        + after.work.cells.len();
+    Comparison {
+        differences,
+        values,
+    }
+}
+
+pub fn check(expected: Option<Refusal>, observed: &CheckObserved) -> Comparison {
+    let (number, place) = expected.map_or((0, 0), |refusal| (refusal.number, refusal.place));
+    let outline = (&observed.outline_before, &observed.outline_after);
+    let differences = [
+        returned(number, observed.returned),
+        difference(
+            "place",
+            &observed.place_before,
+            &observed.place_after,
+            &[place],
+        ),
+        difference("outline", outline.0, outline.1, &[]),
+    ];
+    Comparison {
+        differences: differences.into_iter().flatten().collect(),
+        values: 1 + observed.place_after.cells.len() + outline.1.cells.len(),
+    }
+}
+
+pub fn find(expected: u32, observed: &FindObserved) -> Comparison {
+    let outline = (&observed.outline_before, &observed.outline_after);
+    let differences = [
+        returned(expected, observed.returned),
+        difference("outline", outline.0, outline.1, &[]),
+    ];
+    Comparison {
+        differences: differences.into_iter().flatten().collect(),
+        values: 1 + outline.1.cells.len(),
+    }
+}
+
+#[cfg(test)]
+mod tests {
+    use super::*;
+    use crate::call::Call;
+    use crate::cases;
+    use crate::expect;
+    use crate::frame::Frame;
+    use crate::library::Buffers;
+    use crate::outline::bytes;
+    use crate::random::Random;
+
+    /// What a right library does.
+    fn right(expected: &Expected, call: &Call) -> ChooseObserved {
+        let before = Buffers::random(call, &mut Random::new(9));
+        let mut after = before.clone();
+        after.answer.write(&expected.answer);
+        after.marks.write(&expected.marks);
+        after.curve.write(&expected.curve);
+        after.work.write(&vec![0; expected.work]);
+        ChooseObserved {
+            returned: expected.answer[0],
+            before,
+            after,
+        }
+    }
+
+    fn selection() -> (Expected, ChooseObserved) {
+        let rng = &mut Random::new(1);
+        let mut call = Call::roomy(bytes(&cases::tree_a()), 5, 0, rng);
+        (call.marks, call.curve, call.work) = (8, 15, 171);
+        let expected = expect::by_exhaustive_search(&call, rng);
+        assert_eq!(expected.answer, [0, 0, 12, 5, 2, 0]);
+        let observed = right(&expected, &call);
+        (expected, observed)
+    }
+
+    fn refusal() -> (Expected, ChooseObserved) {
+        let rng = &mut Random::new(1);
+        let mut call = Call::roomy(bytes(&cases::tree_a()), 5, 0, rng);
+        call.marks = 4;
+        let expected = expect::by_exhaustive_search(&call, rng);
+        assert_eq!(expected.answer, [9, 0, 0, 0, 0, 0]);
+        let observed = right(&expected, &call);
+        (expected, observed)
+    }
+
+    /// Every altered element of the frame must be reported under its name.
+    fn notices_every_cell<T: crate::frame::Cell>(
+        name: &str,
+        (expected, observed): &(Expected, ChooseObserved),
+        frame: impl Fn(&mut ChooseObserved) -> &mut Frame<T>,
+        alter: impl Fn(T) -> T,
+    ) {
+        let cells = frame(&mut observed.clone()).cells.len();
+        for at in 0..cells {
+            let mut altered = observed.clone();
+            let cell = &mut frame(&mut altered).cells[at];
+            *cell = alter(*cell);
+            let found = choose(expected, &altered).differences;
+            assert!(!found.is_empty(), "{name} cell {at}");
+            assert!(found[0].starts_with(name), "{found:?}");
+        }
+    }
+
+    fn notices_everything(pair: &(Expected, ChooseObserved)) {
+        notices_every_cell("answer", pair, |o| &mut o.after.answer, |v| v ^ 1);
+        notices_every_cell("outline", pair, |o| &mut o.after.outline, |v| v ^ 1);
+        notices_every_cell("marks", pair, |o| &mut o.after.marks, |v| v ^ 1);
+        notices_every_cell("curve", pair, |o| &mut o.after.curve, |v| v ^ (1 << 31));
+        notices_every_cell("work", pair, |o| &mut o.after.work, |v| v ^ (1 << 63));
+    }
+
+    #[test]
+    fn right_results_have_no_difference() {
+        for (expected, observed) in [selection(), refusal()] {
+            assert_eq!(choose(&expected, &observed).differences, [""; 0]);
+        }
+    }
+
+    #[test]
+    fn any_altered_number_or_byte_of_a_selection_is_noticed() {
+        notices_everything(&selection());
+    }
+
+    #[test]
+    fn any_touched_number_or_byte_of_a_refusal_is_noticed() {
+        notices_everything(&refusal());
+    }
+
+    #[test]
+    fn a_column_off_by_one_is_noticed() {
+        let pair = selection();
+        notices_every_cell(
+            "curve",
+            &pair,
+            |o| &mut o.after.curve,
+            |v| v.wrapping_add(1),
+        );
+        let (expected, mut observed) = pair;
+        let start = observed.after.curve.start;
+        observed.after.curve.cells[start..start + 12].rotate_right(2);
+        assert_ne!(choose(&expected, &observed).differences, [""; 0]);
+    }
+
+    #[test]
+    fn untouched_buffers_of_a_selection_are_noticed() {
+        let (expected, mut observed) = selection();
+        let answer = observed.after.answer.clone();
+        observed.after = observed.before.clone();
+        observed.after.answer = answer;
+        let found = choose(&expected, &observed).differences;
+        let names: Vec<&str> = found.iter().map(|text| &text[..4]).collect();
+        assert_eq!(names, ["mark", "curv", "work"]);
+    }
+
+    #[test]
+    fn a_refusal_for_a_selection_and_the_reverse_are_noticed() {
+        for ((expected, observed), other) in [(selection(), 9), (refusal(), 0)] {
+            let mut altered = observed;
+            altered.returned = other;
+            let found = choose(&expected, &altered).differences;
+            assert_eq!(found.len(), 1);
+            assert!(found[0].starts_with("returned"));
+        }
+    }
+
+    #[test]
+    fn values_are_counted_with_their_guards() {
+        let (expected, observed) = selection();
+        let after = &observed.after;
+        let guards = |start: usize, len: usize, cells: usize| {
+            assert!(start >= 1 && cells >= start + len + 8);
+            cells
+        };
+        let cells = guards(after.answer.start, 6, after.answer.cells.len())
+            + guards(after.outline.start, 80, after.outline.cells.len())
+            + guards(after.marks.start, 8, after.marks.cells.len())
+            + guards(after.curve.start, 15, after.curve.cells.len())
+            + guards(after.work.start, 171, after.work.cells.len());
+        assert_eq!(choose(&expected, &observed).values, 1 + cells);
+    }
+
+    #[test]
+    fn wrong_checks_are_noticed() {
+        let rng = &mut Random::new(2);
+        let outline = Frame::holding(&[1_u8, 2, 3], rng);
+        let place = Frame::<u32>::random(1, rng);
+        let mut right = CheckObserved {
+            returned: 5,
+            outline_before: outline.clone(),
+            outline_after: outline,
+            place_before: place.clone(),
+            place_after: place,
+        };
+        right.place_after.write(&[3]);
+        let refusal = |number, place| Some(Refusal { number, place });
+        assert_eq!(check(refusal(5, 3), &right).differences, [""; 0]);
+        assert_eq!(check(refusal(5, 4), &right).differences.len(), 1);
+        assert_eq!(check(refusal(6, 3), &right).differences.len(), 1);
+        assert_eq!(check(None, &right).differences.len(), 2);
+        for at in 0..right.place_after.cells.len() {
+            let mut altered = right.clone();
+            altered.place_after.cells[at] ^= 1;
+            assert_eq!(check(refusal(5, 3), &altered).differences.len(), 1);
+        }
+        for at in 0..right.outline_after.cells.len() {
+            let mut altered = right.clone();
+            altered.outline_after.cells[at] ^= 1;
+            assert_eq!(check(refusal(5, 3), &altered).differences.len(), 1);
+        }
+    }
+
+    #[test]
+    fn wrong_finds_are_noticed() {
+        let outline = Frame::holding(&[1_u8, 2, 3], &mut Random::new(3));
+        let right = FindObserved {
+            returned: 7,
+            outline_before: outline.clone(),
+            outline_after: outline,
+        };
+        assert_eq!(find(7, &right).differences, [""; 0]);
+        assert_eq!(find(0, &right).differences.len(), 1);
+        for at in 0..right.outline_after.cells.len() {
+            let mut altered = right.clone();
+            altered.outline_after.cells[at] ^= 1;
+            assert_eq!(find(7, &altered).differences.len(), 1);
+        }
+    }
+}

@@ -1,0 +1,184 @@
+//! The static library's C interface, thin wrappers, and calls whose buffers are guarded.
+
+use crate::call::Call;
+use crate::frame::Frame;
+use crate::random::Random;
+
+extern "C" {
+    fn plates_check(outline: *const u8, outline_len: usize, place: *mut u32) -> u32;
+    fn plates_find(outline: *const u8, outline_len: usize, plate: u32) -> u32;
+    fn plates_choose(
+        outline: *const u8,
+        outline_len: usize,
+        count: u32,
+        way: u32,
+        marks: *mut u8,
+        marks_len: usize,
+        curve: *mut u32,
+        curve_len: usize,
+        work: *mut u64,
+        work_len: usize,
+        answer: *mut u32,
+    ) -> u32;
+}
+
+/// The work numbers needed for `records` records and a page count.
+pub fn work_len(records: usize, count: u32) -> usize {
+    4 * (records + 2) * (count as usize + 1)
+}
+
+/// The six numbers of the answer: number, place, diversity, cost, taxa, spare.
+pub fn choose(
+    outline: &[u8],
+    count: u32,
+    way: u32,
+    marks: &mut [u8],
+    curve: &mut [u32],
+    work: &mut [u64],
+) -> [u32; 6] {
+    let mut answer = [0; 6];
+    // SAFETY: every pointer comes with the length of the slice it was taken from, and no two slices overlap.
+    unsafe {
+        plates_choose(
+            outline.as_ptr(),
+            outline.len(),
+            count,
+            way,
+            marks.as_mut_ptr(),
+            marks.len(),
+            curve.as_mut_ptr(),
+            curve.len(),
+            work.as_mut_ptr(),
+            work.len(),
+            answer.as_mut_ptr(),
+        );
+    }
+    answer
+}
+
+/// The five buffers of a choosing call with their guards.
+#[derive(Clone, Debug)]
+pub struct Buffers {
+    pub outline: Frame<u8>,
+    pub marks: Frame<u8>,
+    pub curve: Frame<u32>,
+    pub work: Frame<u64>,
+    pub answer: Frame<u32>,
+}
+
+impl Buffers {
+    pub fn random(call: &Call, rng: &mut Random) -> Self {
+        Buffers {
+            outline: Frame::holding(&call.outline, rng),
+            marks: Frame::random(call.marks, rng),
+            curve: Frame::random(call.curve, rng),
+            work: Frame::random(call.work, rng),
+            answer: Frame::random(6, rng),
+        }
+    }
+}
+
+/// What a choosing call returned and did to its buffers.
+#[derive(Clone, Debug)]
+pub struct ChooseObserved {
+    pub returned: u32,
+    pub before: Buffers,
+    pub after: Buffers,
+}
+
+pub fn guarded_choose(call: &Call, rng: &mut Random) -> ChooseObserved {
+    let before = Buffers::random(call, rng);
+    let mut after = before.clone();
+    // SAFETY: each frame's buffer has the length given here, and the frames are separate allocations.
+    let returned = unsafe {
+        plates_choose(
+            after.outline.pointer(),
+            after.outline.len,
+            call.count,
+            call.way,
+            after.marks.pointer(),
+            after.marks.len,
+            after.curve.pointer(),
+            after.curve.len,
+            after.work.pointer(),
+            after.work.len,
+            after.answer.pointer(),
+        )
+    };
+    ChooseObserved {
+        returned,
+        before,
+        after,
+    }
+}
+
+/// What a check returned and did to its buffers.
+#[derive(Clone, Debug)]
+pub struct CheckObserved {
+    pub returned: u32,
+    pub outline_before: Frame<u8>,
+    pub outline_after: Frame<u8>,
+    pub place_before: Frame<u32>,
+    pub place_after: Frame<u32>,
+}
+
+pub fn guarded_check(outline: &[u8], rng: &mut Random) -> CheckObserved {
+    let outline_before = Frame::holding(outline, rng);
+    let place_before = Frame::random(1, rng);
+    let mut outline_after = outline_before.clone();
+    let mut place_after = place_before.clone();
+    // SAFETY: the frame's buffer has the length given here; the place has room for one number.
+    let returned = unsafe {
+        plates_check(
+            outline_after.pointer(),
+            outline_after.len,
+            place_after.pointer(),
+        )
+    };
+    CheckObserved {
+        returned,
+        outline_before,
+        outline_after,
+        place_before,
+        place_after,
+    }
+}
+
+/// What a search for a plate returned and did to the outline.
+#[derive(Clone, Debug)]
+pub struct FindObserved {
+    pub returned: u32,
+    pub outline_before: Frame<u8>,
+    pub outline_after: Frame<u8>,
+}
+
+pub fn guarded_find(outline: &[u8], plate: u32, rng: &mut Random) -> FindObserved {
+    let outline_before = Frame::holding(outline, rng);
+    let mut outline_after = outline_before.clone();
+    // SAFETY: the frame's buffer has the length given here.
+    let returned = unsafe { plates_find(outline_after.pointer(), outline_after.len, plate) };
+    FindObserved {
+        returned,
+        outline_before,
+        outline_after,
+    }
+}
+
+#[cfg(test)]
+mod tests {
+    use super::*;
+    use crate::cases::tree_a;
+    use crate::outline::bytes;
+
+    #[test]
+    fn wrapper_gives_tree_a() {
+        let outline = bytes(&tree_a());
+        let (mut marks, mut curve) = ([9; 5], [9; 12]);
+        let mut work = vec![9; work_len(5, 5)];
+        let answer = choose(&outline, 5, 0, &mut marks, &mut curve, &mut work);
+        assert_eq!(answer, [0, 0, 12, 5, 2, 0]);
+        assert_eq!(marks, [0, 0, 1, 0, 1]);
+        assert_eq!(curve, [0, 0, 5, 1, 5, 1, 10, 3, 10, 3, 12, 5]);
+        assert!(work.iter().all(|&number| number == 0));
+    }
+}

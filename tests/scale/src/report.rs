@@ -1,0 +1,186 @@
+//! The counts of everything compared, and the printing of what differed.
+
+use crate::compare::Comparison;
+
+/// The comparing stops after so many differing calls.
+const MOST_DIFFERENCES: u64 = 10;
+
+/// Says that the comparing has stopped early.
+#[derive(Debug)]
+pub struct Stop;
+
+#[derive(Clone, Copy, Debug, Default, PartialEq, Eq)]
+pub struct Counts {
+    pub calls: u64,
+    pub columns: u64,
+    pub values: u64,
+    /// Calls of which anything differed.
+    pub differences: u64,
+}
+
+#[derive(Default)]
+pub struct Report {
+    pub total: Counts,
+    at_last_line: Counts,
+    shortfalls: u64,
+}
+
+impl Report {
+    /// Counts a compared call; if anything differed, prints what, and the call.
+    pub fn add(
+        &mut self,
+        comparison: &Comparison,
+        columns: usize,
+        call: impl FnOnce() -> String,
+    ) -> Result<(), Stop> {
+        self.total.calls += 1;
+        self.total.columns += columns as u64;
+        self.total.values += comparison.values as u64;
+        if comparison.differences.is_empty() {
+            return Ok(());
+        }
+        self.total.differences += 1;
+        println!("difference {}: {}", self.total.differences, call());
+        for text in &comparison.differences {
+            println!("  {text}");
+        }
+        if self.total.differences < MOST_DIFFERENCES {
+            Ok(())
+        } else {
+            Err(Stop)
+        }
+    }
+
+    /// Prints a run's line with what was compared since the last one.
+    pub fn line(&mut self, run: &str) {
+        let (now, then) = (self.total, self.at_last_line);
+        println!(
+            "{run}: {} calls, {} columns, {} values, {} differences",
+            now.calls - then.calls,
+            now.columns - then.columns,
+            now.values - then.values,
+            now.differences - then.differences
+        );
+        self.at_last_line = now;
+    }
+
+    /// Fails the whole if something occurred too seldom for the comparison to mean much.
+    pub fn require(&mut self, what: &str, times: u64, least: u64) {
+        if times < least {
+            println!("too few: {what} occurred {times} times, at least {least} wanted");
+            self.shortfalls += 1;
+        }
+    }
+
+    pub fn passed(&self) -> bool {
+        self.total.differences == 0 && self.shortfalls == 0
+    }
+
+    pub fn summary(&self) -> String {
+        let Counts {
+            calls,
+            columns,
+            values,
+            differences,
+        } = self.total;
+        format!("scale: {calls} calls compared, {columns} columns, {values} values, {differences} differences")
+    }
+}
+
+/// The listing program judges so many bytes of an outline.
+const LISTED_BYTES: usize = 2_048;
+
+/// A shell line that feeds the call to the listing program, and what of the call that program cannot be given.
+pub fn shell_line(count: u32, way: u32, outline: &[u8]) -> String {
+    let short = |value: u32| u16::try_from(value).unwrap_or(u16::MAX);
+    let head = [short(count).to_le_bytes(), short(way).to_le_bytes()].concat();
+    let listed = &outline[..outline.len().min(LISTED_BYTES)];
+    let octal: String = head
+        .iter()
+        .chain(listed)
+        .map(|byte| format!("\\{byte:03o}"))
+        .collect();
+    let mut line = format!("printf '{octal}' | target/bin/listing");
+    for (name, value) in [("page count", count), ("way", way)] {
+        if value > u32::from(u16::MAX) {
+            line += &format!(" # {name} {value} does not fit 2 bytes, 65535 stands for it");
+        }
+    }
+    if listed.len() < outline.len() {
+        line += &format!(
+            " # only the first {LISTED_BYTES} of {} bytes",
+            outline.len()
+        );
+    }
+    line
+}
+
+#[cfg(test)]
+mod tests {
+    use super::*;
+    use std::process::Command;
+
+    fn comparison(differences: &[&str]) -> Comparison {
+        Comparison {
+            differences: differences.iter().map(|text| text.to_string()).collect(),
+            values: 7,
+        }
+    }
+
+    /// The bytes that the shell's own printf makes of the line.
+    fn decoded(line: &str) -> Vec<u8> {
+        let (command, _) = line.split_once(" | ").expect("a pipe");
+        let output = Command::new("sh").arg("-c").arg(command).output();
+        output.expect("sh runs").stdout
+    }
+
+    #[test]
+    fn shell_line_decodes_to_the_input() {
+        let outline: Vec<u8> = (0..=255).chain(b"%d\\n'".iter().copied()).collect();
+        let line = shell_line(0x0205, 1, &outline);
+        assert!(line.starts_with("printf '\\005\\002\\001\\000\\000\\001"));
+        assert!(line.ends_with("' | target/bin/listing"));
+        assert_eq!(decoded(&line), [&[5, 2, 1, 0], &outline[..]].concat());
+    }
+
+    #[test]
+    fn shell_line_says_what_does_not_fit() {
+        let line = shell_line(65_536, 70_000, &[1]);
+        assert_eq!(decoded(&line), [255, 255, 255, 255, 1]);
+        assert!(line.contains("page count 65536 does not fit"));
+        assert!(line.contains("way 70000 does not fit"));
+        assert!(!shell_line(65_535, 65_535, &[7; 2_048]).contains('#'));
+        let long = shell_line(5, 1, &[7; 2_049]);
+        assert_eq!(decoded(&long)[4..], [7; 2_048]);
+        assert!(long.ends_with("# only the first 2048 of 2049 bytes"));
+    }
+
+    #[test]
+    fn counts_and_stops_after_ten_differences() {
+        let mut report = Report::default();
+        assert!(report
+            .add(&comparison(&[]), 6, || panic!("no difference"))
+            .is_ok());
+        assert!(report.passed());
+        for _ in 1..10 {
+            let added = report.add(&comparison(&["one", "two"]), 6, || "call".to_string());
+            assert!(added.is_ok());
+            assert!(!report.passed());
+        }
+        let added = report.add(&comparison(&["one"]), 6, || "call".to_string());
+        assert!(added.is_err());
+        assert_eq!(
+            report.summary(),
+            "scale: 11 calls compared, 66 columns, 77 values, 10 differences"
+        );
+    }
+
+    #[test]
+    fn a_shortfall_fails() {
+        let mut report = Report::default();
+        report.require("refusal 3", 100, 100);
+        assert!(report.passed());
+        report.require("refusal 3", 99, 100);
+        assert!(!report.passed());
+    }
+}

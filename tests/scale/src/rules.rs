@@ -1,0 +1,259 @@
+//! Document 01's table of refusals, judged row by row, and its finder.
+
+use crate::call::{needed, Call};
+use crate::outline::{self, Record, RECORD_BYTES};
+
+/// A refusal's number in the table, and its place: a record number, or 0.
+#[derive(Clone, Copy, Debug, PartialEq, Eq)]
+pub struct Refusal {
+    pub number: u32,
+    pub place: u32,
+}
+
+/// The first of refusals 1 to 9 that holds.
+pub fn choose(call: &Call) -> Option<Refusal> {
+    let records = outline::records(&call.outline);
+    way(call.way)
+        .or_else(|| size(&call.outline))
+        .or_else(|| record_count(&records))
+        .or_else(|| page_count(call.count))
+        .or_else(|| content(&records))
+        .or_else(|| space(call, records.len()))
+}
+
+/// The first of refusals 2, 3 and 5 to 8 that holds.
+pub fn check(outline: &[u8]) -> Option<Refusal> {
+    let records = outline::records(outline);
+    size(outline)
+        .or_else(|| record_count(&records))
+        .or_else(|| content(&records))
+}
+
+/// The number of the record of the taxon with this plate; 0 where the finder's part is empty.
+pub fn find(outline: &[u8], plate: u32) -> u32 {
+    if check(outline).is_some() {
+        return 0;
+    }
+    let records = outline::records(outline);
+    numbers(&records)
+        .find(|&number| {
+            let record = records[number - 1];
+            record.is_taxon() && record.plate == plate
+        })
+        .map_or(0, |number| number as u32)
+}
+
+fn content(records: &[Record]) -> Option<Refusal> {
+    field(records)
+        .or_else(|| link(records))
+        .or_else(|| taxon_count(records))
+        .or_else(|| plate(records))
+}
+
+fn numbers(records: &[Record]) -> std::ops::RangeInclusive<usize> {
+    1..=records.len()
+}
+
+fn without_place(number: u32, holds: bool) -> Option<Refusal> {
+    holds.then_some(Refusal { number, place: 0 })
+}
+
+/// The refusal at the lowest record for which `holds`.
+fn at_lowest(
+    number: u32,
+    records: &[Record],
+    holds: impl Fn(&[Record], usize) -> bool,
+) -> Option<Refusal> {
+    let place = numbers(records).find(|&record| holds(records, record))? as u32;
+    Some(Refusal { number, place })
+}
+
+fn way(way: u32) -> Option<Refusal> {
+    without_place(1, way != 0 && way != 1)
+}
+
+fn size(outline: &[u8]) -> Option<Refusal> {
+    without_place(
+        2,
+        outline.is_empty() || !outline.len().is_multiple_of(RECORD_BYTES),
+    )
+}
+
+fn record_count(records: &[Record]) -> Option<Refusal> {
+    without_place(3, records.len() > 127)
+}
+
+fn page_count(count: u32) -> Option<Refusal> {
+    without_place(4, count > 4_096)
+}
+
+fn field(records: &[Record]) -> Option<Refusal> {
+    at_lowest(5, records, |records, number| {
+        let record = records[number - 1];
+        let fits = if record.is_taxon() {
+            record.price <= 65_535 && record.plate >= 1
+        } else {
+            record.price == 0 && record.plate == 0
+        };
+        record.length > 1_000_000 || !fits
+    })
+}
+
+fn link(records: &[Record]) -> Option<Refusal> {
+    at_lowest(6, records, |records, number| {
+        let record = records[number - 1];
+        let wrong = |link: u16| {
+            let link = usize::from(link);
+            link != 0 && !(link > number && link <= records.len())
+        };
+        wrong(record.next)
+            || wrong(record.first)
+            || number == 1 && record.next != 0
+            || number >= 2 && times_named(records, number) != 1
+    })
+}
+
+/// In how many link fields of the whole outline the number stands.
+fn times_named(records: &[Record], number: usize) -> usize {
+    records
+        .iter()
+        .flat_map(|record| [record.next, record.first])
+        .filter(|&link| usize::from(link) == number)
+        .count()
+}
+
+fn taxon_count(records: &[Record]) -> Option<Refusal> {
+    without_place(7, outline::taxa(records).len() > 64)
+}
+
+fn plate(records: &[Record]) -> Option<Refusal> {
+    at_lowest(8, records, |records, number| {
+        let record = records[number - 1];
+        record.is_taxon()
+            && records[..number - 1]
+                .iter()
+                .any(|earlier| earlier.is_taxon() && earlier.plate == record.plate)
+    })
+}
+
+fn space(call: &Call, records: usize) -> Option<Refusal> {
+    let [marks, curve, work] = needed(records, call.count);
+    without_place(
+        9,
+        call.marks < marks || call.curve < curve || call.work < work,
+    )
+}
+
+#[cfg(test)]
+mod tests {
+    use super::*;
+    use crate::cases::{limits, tree_a};
+    use crate::outline::bytes;
+
+    fn refusal(number: u32, place: u32) -> Option<Refusal> {
+        Some(Refusal { number, place })
+    }
+
+    /// Tree A, way 0, page count 5, buffers as long as needed.
+    fn call() -> Call {
+        Call {
+            outline: bytes(&tree_a()),
+            count: 5,
+            way: 0,
+            marks: 5,
+            curve: 12,
+            work: 168,
+        }
+    }
+
+    fn checked(alter: impl Fn(&mut [Record])) -> Option<Refusal> {
+        let mut records = tree_a();
+        alter(&mut records);
+        check(&bytes(&records))
+    }
+
+    #[test]
+    fn gives_what_document_01_states_at_the_limits() {
+        for limit in limits() {
+            let [marks, curve, work] = needed(limit.outline.len() / RECORD_BYTES, limit.count);
+            let call = Call {
+                outline: limit.outline,
+                count: limit.count,
+                way: 0,
+                marks,
+                curve,
+                work,
+            };
+            let stated = Refusal {
+                number: limit.number,
+                place: limit.place,
+            };
+            assert_eq!(choose(&call), (limit.number != 0).then_some(stated));
+        }
+    }
+
+    #[test]
+    fn the_first_row_that_holds_is_given() {
+        let mut faulty = call();
+        assert_eq!(choose(&faulty), None);
+        faulty.work = 167;
+        assert_eq!(choose(&faulty), refusal(9, 0));
+        faulty.outline[44] = 12;
+        assert_eq!(choose(&faulty), refusal(8, 4));
+        faulty.outline[0] = 2;
+        assert_eq!(choose(&faulty), refusal(6, 1));
+        faulty.outline[24] = 1;
+        assert_eq!(choose(&faulty), refusal(5, 2));
+        faulty.count = 4_097;
+        assert_eq!(choose(&faulty), refusal(4, 0));
+        faulty.outline.resize(128 * RECORD_BYTES, 0);
+        assert_eq!(choose(&faulty), refusal(3, 0));
+        faulty.outline.push(0);
+        assert_eq!(choose(&faulty), refusal(2, 0));
+        faulty.way = 2;
+        assert_eq!(choose(&faulty), refusal(1, 0));
+    }
+
+    #[test]
+    fn each_short_buffer_is_refused() {
+        for (marks, curve, work) in [(4, 12, 168), (5, 11, 168), (5, 12, 167), (0, 0, 0)] {
+            let short = Call {
+                marks,
+                curve,
+                work,
+                ..call()
+            };
+            assert_eq!(choose(&short), refusal(9, 0));
+        }
+    }
+
+    #[test]
+    fn fields_outside_their_ranges_are_refused() {
+        assert_eq!(checked(|r| r[2].price = 65_535), None);
+        assert_eq!(checked(|r| r[2].price = 65_536), refusal(5, 3));
+        assert_eq!(checked(|r| r[3].plate = 0), refusal(5, 4));
+        assert_eq!(checked(|r| r[3].plate = u32::MAX), None);
+        assert_eq!(checked(|r| r[1].price = 1), refusal(5, 2));
+        assert_eq!(checked(|r| r[0].plate = 1), refusal(5, 1));
+        assert_eq!(checked(|r| r[0].length = 1_000_001), refusal(5, 1));
+    }
+
+    #[test]
+    fn links_are_refused_at_the_lowest_record_at_fault() {
+        assert_eq!(checked(|r| r[4].next = 6), refusal(6, 5));
+        assert_eq!(checked(|r| r[4].next = 5), refusal(6, 5));
+        assert_eq!(checked(|r| r[3].next = 5), refusal(6, 5));
+        assert_eq!(checked(|r| r[4].next = 3), refusal(6, 3));
+        assert_eq!(checked(|r| r[4].next = 1), refusal(6, 5));
+        assert_eq!(checked(|r| r[2].next = 0), refusal(6, 4));
+        assert_eq!(checked(|r| r[1].first = 4), refusal(6, 3));
+    }
+
+    #[test]
+    fn only_taxa_of_accepted_outlines_are_found() {
+        let outline = bytes(&tree_a());
+        let found = [11, 12, 13, 0, 14].map(|plate| find(&outline, plate));
+        assert_eq!(found, [3, 4, 5, 0, 0]);
+        assert_eq!(find(&outline[..79], 11), 0);
+    }
+}
