@@ -38,7 +38,7 @@ impl Plan {
             ["--quick"] => true,
             _ => return None,
         };
-        let rounds = if quick { 3 } else { 15 };
+        let rounds = if quick { 3 } else { 25 };
         Some(Plan {
             rounds,
             calls: 10,

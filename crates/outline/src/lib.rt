@@ -1,6 +1,6 @@
 // Outlines: reading their records, checking them, and finding the record of a plate. A buyer calls `check`, `find` and
-// `find_record`, which ask nothing of the caller. `fields` and `verdict` are public for the crates above; a reader of a field requires
-// that the record is there.
+// `find_record`, which ask nothing of the caller. `fields` and `verdict` are public for the crates above: a reader of a field
+// requires that the record is there, `check_records` that there are at most 127.
 pub mod fields;
 mod finder;
 mod rules;

@@ -1,16 +1,20 @@
 // The conditions of refusals 5 to 8, record by record.
 ghost use mathlib.Core.Path.{_≡_};
-ghost use Prim.Native.Nat.{_≤_};
+ghost use Prim.Native.Nat.{_≤_, _<_};
+ghost use lib.ListN.{getD};
 ghost use Rattle.outline.specs.Lists.{from, lowest};
-ghost use Rattle.outline.specs.Inner.{IsRecord, breaks};
+ghost use Rattle.outline.specs.Inner.{IsRecord, breaks, counted, Tally};
 ghost use Rattle.outline.specs.Outline.{size, records};
-ghost use Rattle.outline.specs.Refusals.{badField, stray, naming, named, badLink, taxa, hasPlate, isDuplicate};
+ghost use Rattle.outline.specs.Refusals.{badField, stray, badLink, taxa, hasPlate, isDuplicate, mostRecords};
 use super::fields::branch_of;
 use super::fields::first_of;
 use super::fields::is_taxon;
 use super::fields::next_of;
 use super::fields::plate_of;
 use super::fields::price_of;
+
+// Record numbers are below this, with 0 for no record.
+pub const NUMBERS: usize = 128;
 
 // The rules that each record has to keep.
 pub enum Rule {
@@ -41,31 +45,36 @@ fn is_stray(o: &[u8], r: usize, link: usize) -> bool
     (link != 0) & ((link <= r) | (o.len() / 16 < link))
 }
 
-// How many of record r's two links hold q.
-fn naming_of(o: &[u8], q: usize, r: usize) -> usize
-    requires { ⌜ IsRecord (now o) r ⌝ }
-    ensures { λ v. ⌜ v ≡ naming (now (o .entry)) q r ⌝ }
+// Adds one to the count of a link, if it has one.
+fn count_link(counts: &mut [u8; NUMBERS], link: usize)
+    requires { ⌜ getD (now counts) link 0 < 255 ⌝ }
+    ensures { λ _. ⌜ now (counts .exit) ≡ counted link (now (counts .entry)) ⌝ }
 {
-    (next_of(o, r) == q) as usize + (first_of(o, r) == q) as usize
+    if link < NUMBERS {
+        counts[link] += 1;
+    }
 }
 
-// How many link fields hold q.
-fn named_of(o: &[u8], q: usize) -> usize
-    ensures { λ v. ⌜ v ≡ named (now (o .entry)) q ⌝ }
+// How many link fields hold each record number: one pass for all records.
+pub fn count_links(o: &[u8]) -> [u8; NUMBERS]
+    requires { ⌜ size (now o) ≤ mostRecords ⌝ }
+    ensures { λ counts. ⌜ Tally (now (o .entry)) counts ⌝ }
 {
     let n = o.len() / 16;
-    let mut sum = 0;
+    let mut counts = [0; NUMBERS];
     let mut r = 1;
     while r <= n {
-        sum += naming_of(o, q, r);
+        count_link(&mut counts, next_of(o, r));
+        count_link(&mut counts, first_of(o, r));
         r += 1;
     }
-    sum
+    counts
 }
 
 // Whether a link of record r is stray, or it is record 1 and has a next, or it is another and is not named exactly once.
-fn bad_link(o: &[u8], r: usize) -> bool
+fn bad_link(o: &[u8], counts: &[u8; NUMBERS], r: usize) -> bool
     requires { ⌜ IsRecord (now o) r ⌝ }
+    requires { ⌜ Tally (now o) (now counts) ⌝ }
     ensures { λ v. ⌜ v ≡ badLink (now (o .entry)) r ⌝ }
 {
     let next = next_of(o, r);
@@ -73,7 +82,7 @@ fn bad_link(o: &[u8], r: usize) -> bool
     if r == 1 {
         stray | (next != 0)
     } else {
-        stray | (named_of(o, r) != 1)
+        stray | (counts[r] != 1)
     }
 }
 
@@ -96,7 +105,10 @@ fn has_plate(o: &[u8], plate: u32, r: usize) -> bool
     requires { ⌜ IsRecord (now o) r ⌝ }
     ensures { λ v. ⌜ v ≡ hasPlate (now (o .entry)) plate r ⌝ }
 {
-    is_taxon(o, r) & (plate_of(o, r) == plate)
+    if plate_of(o, r) != plate {
+        return false;
+    }
+    is_taxon(o, r)
 }
 
 // The lowest of the first n records that is the taxon of a plate, 0 if none is.
@@ -122,25 +134,27 @@ fn is_duplicate(o: &[u8], r: usize) -> bool
     holder_of(o, plate_of(o, r), r - 1) != 0
 }
 
-fn is_broken(o: &[u8], rule: Rule, r: usize) -> bool
+fn is_broken(o: &[u8], counts: &[u8; NUMBERS], rule: Rule, r: usize) -> bool
     requires { ⌜ IsRecord (now o) r ⌝ }
+    requires { ⌜ Tally (now o) (now counts) ⌝ }
     ensures { λ v. ⌜ v ≡ breaks (now (o .entry)) rule r ⌝ }
 {
     match rule {
         Rule::Field => bad_field(o, r),
-        Rule::Link => bad_link(o, r),
+        Rule::Link => bad_link(o, counts, r),
         Rule::Duplicate => is_duplicate(o, r),
     }
 }
 
 // The lowest record that breaks a rule, 0 if none does.
-pub fn broken_at(o: &[u8], rule: Rule) -> usize
+pub fn broken_at(o: &[u8], counts: &[u8; NUMBERS], rule: Rule) -> usize
+    requires { ⌜ Tally (now o) (now counts) ⌝ }
     ensures { λ v. ⌜ v ≡ lowest (breaks (now (o .entry)) rule) (records (now (o .entry))) ⌝ }
 {
     let n = o.len() / 16;
     let mut r = 1;
     while r <= n {
-        if is_broken(o, rule, r) {
+        if is_broken(o, counts, rule, r) {
             return r;
         }
         r += 1;

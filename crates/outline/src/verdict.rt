@@ -1,8 +1,11 @@
 // What the check of an outline answers: the first row of the table of refusals that holds, and its place.
 ghost use mathlib.Core.Path.{_≡_};
-ghost use Rattle.outline.specs.Refusals.{refusal as tells, told, sizeRows, recordRows, checked};
+ghost use Prim.Native.Nat.{_≤_};
+ghost use Rattle.outline.specs.Outline.{size};
+ghost use Rattle.outline.specs.Refusals.{refusal as tells, told, mostRecords, sizeRows, recordRows, checked};
 use super::rules::Rule;
 use super::rules::broken_at;
+use super::rules::count_links;
 use super::rules::taxa_of;
 
 pub const MOST_RECORDS: usize = 127;
@@ -77,20 +80,22 @@ pub fn check_size(outline: &[u8]) -> Verdict
 
 // Rows 5 to 8: whether the records keep every rule.
 pub fn check_records(outline: &[u8]) -> Verdict
+    requires { ⌜ size (now outline) ≤ mostRecords ⌝ }
     ensures { λ v. ⌜ told v ≡ recordRows (now (outline .entry)) ⌝ }
 {
-    let field = broken_at(outline, Rule::Field);
+    let counts = count_links(outline);
+    let field = broken_at(outline, &counts, Rule::Field);
     if field != 0 {
         return Verdict::Refused(Refusal::FieldOutOfRange(field));
     }
-    let link = broken_at(outline, Rule::Link);
+    let link = broken_at(outline, &counts, Rule::Link);
     if link != 0 {
         return Verdict::Refused(Refusal::BadLink(link));
     }
     if MOST_TAXA < taxa_of(outline) {
         return Verdict::Refused(Refusal::TooManyTaxa);
     }
-    let duplicate = broken_at(outline, Rule::Duplicate);
+    let duplicate = broken_at(outline, &counts, Rule::Duplicate);
     if duplicate != 0 {
         return Verdict::Refused(Refusal::DuplicatePlate(duplicate));
     }

@@ -1,10 +1,12 @@
 -- `choice::judge::judge` meets its contract: the rows that passed leave the answer to the next one.
+use Prim.Native.Nat.{_≤_}
 use mathlib.Core.Path.{_≡_}
 use mathlib.Core.Bool.{Bool, true, false, _&&_, not}
 use lib.Dec.{eqb, ltb}
 use borrow.Author.Needs.{needs}
 use borrow.Author.Tests.{lt-ltb, le-ltb}
-use Rattle.outline.specs.Refusals.{Told, told, _▸_, row, sizeRows, recordRows}
+use Rattle.outline.specs.Outline.{size}
+use Rattle.outline.specs.Refusals.{Told, told, _▸_, row, mostRecords, sizeRows, recordRows}
 use Rattle.outline.proofs.Refusals.{refusal-not-zero}
 use Rattle.outline.proofs.Kept.{sizes-kept}
 use Rattle.choice.specs.Answer.{Call, call as callOf, mostCount, tooShort, judged}
@@ -53,13 +55,18 @@ passed1 c = let fails : unknownWay (at2 c) ≡ false = c .before .if1 .left in s
 
 returns-2 : tie.Need-returns-2
 returns-2 c =
-    let size = c .before .before in
-    let number : eqb (told (size .check-size .result) .number) 0 ≡ false = simp (c .enum-told .given .1, refusal-not-zero) in
-    simp (← size .check-size .ensures, number) at (passed1 size)
+    let sized = c .before .before in
+    let number : eqb (told (sized .check-size .result) .number) 0 ≡ false = simp (c .enum-told .given .1, refusal-not-zero) in
+    simp (← sized .check-size .ensures, number) at (passed1 sized)
 
 -- rows 2 and 3 passed too
 passed3 : (c : tie.After-enum-told2) → after3 (at2 (c .before .before)) ≡ judged (at2 (c .before .before))
-passed3 c = let size = c .before .before in simp (← size .check-size .ensures, c .enum-told2 .given .1) at (passed1 size)
+passed3 c = let sized = c .before .before in simp (← sized .check-size .ensures, c .enum-told2 .given .1) at (passed1 sized)
+
+few : (c : tie.After-enum-told2) → size (at2 (c .before .before) .outline) ≤ mostRecords
+few c =
+    let pass : sizeRows (at2 (c .before .before) .outline) .number ≡ 0 = rw (← c .before .before .check-size .ensures, c .enum-told2 .given .1) in
+    sizes-kept _ pass .2
 
 returns-3 : tie.Need-returns-3
 returns-3 c =
@@ -83,10 +90,7 @@ passed8 c = let records = c .before .before in simp (← records .check-records 
 work-taken-requires : tie.Need-work-taken-requires
 work-taken-requires c κs =
     let under = c .before .before .before in
-    let size = under .before in
-    let checked = size .before .before in
-    let pass : sizeRows (at2 checked .outline) .number ≡ 0 = rw (← checked .check-size .ensures, size .enum-told2 .given .1) in
-    record { records = sizes-kept _ pass .2; columns = under .if2 .left }
+    record { records = few (under .before); columns = under .if2 .left }
 
 returns-5 : tie.Need-returns-5
 unfolding tooShort
@@ -106,7 +110,7 @@ judge-spec =
     returns-2
     (λ c. search needs)
     returns-3
-    (λ c κs. search needs)
+    (λ c κs. few (c .before))
     (λ c. search needs)
     returns-4
     (λ c. search needs)

@@ -9,10 +9,10 @@ use Rattle.outline.proofs.rules.broken_at.Statement.{statement}
 use Rattle.outline.proofs.rules.broken_at.Tie as tie
 
 abbrev Inv-loop : tie.InvT-loop
-Inv-loop o rule n r₀ r = Seeking (breaks o rule) n r
+Inv-loop o counts rule n r₀ r = Seeking (breaks o rule) n r
 
 abbrev μ-loop : tie.MeasureT-loop
-μ-loop o rule n r₀ r = n + 1 - r
+μ-loop o counts rule n r₀ r = n + 1 - r
 
 returns : tie.Need-returns Inv-loop μ-loop
 unfolding records

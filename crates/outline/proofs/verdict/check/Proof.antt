@@ -1,9 +1,17 @@
 -- `outline::verdict::check` meets its contract: the rows on the size come first.
+use mathlib.Core.Path.{sym, ap}
 use borrow.Author.Needs.{needs}
-use Rattle.outline.specs.Refusals.{checked}
+use Rattle.outline.specs.Refusals.{Told, checked}
+use Rattle.outline.proofs.Kept.{sizes-kept}
 use Rattle.outline.proofs.Refusals.{refusal-not-zero}
 use Rattle.outline.proofs.verdict.check.Statement.{statement}
 use Rattle.outline.proofs.verdict.check.Tie as tie
+
+-- the rows on the size passed
+check-records-requires : tie.Need-check-records-requires
+check-records-requires c κs =
+    let e = rw (c .enum-told .given .1) at (c .before .before .check-size .ensures) in
+    sizes-kept _ (sym (ap (λ (t : Told). t .number) e)) .2
 
 returns : tie.Need-returns
 unfolding checked
@@ -16,4 +24,4 @@ returns-2 c = simp (← c .before .before .check-size .ensures, c .enum-told2 .g
 pub check-spec : {M : Type 1} → statement M
 check-spec =
     tie.close
-    (tie.spec (λ c. search needs) (λ c. search needs) (λ c. search needs) (λ c. search needs) returns returns-2)
+    (tie.spec (λ c κs. search needs) (λ c. search needs) check-records-requires (λ c. search needs) returns returns-2)

@@ -22,13 +22,13 @@ after5 o = rowAt 6 (badLink o) o ▸ after6 o
 
 -- the outline, at each place
 abbrev at5 : tie.After-broken-at2 → List ℕ
-at5 c = c .before .before .before .before .args .outline .now
+at5 c = c .before .before .before .before .before .before .before .args .outline .now
 
 abbrev at6 : tie.After-taxa-of → List ℕ
 at6 c = at5 (c .before .before)
 
 abbrev at7 : tie.After-broken-at3 → List ℕ
-at7 c = at6 (c .before .before)
+at7 c = at6 (c .before .before .before)
 
 returns : tie.Need-returns
 unfolding recordRows breaks
@@ -37,7 +37,7 @@ returns c = simp (← c .before .broken-at .ensures, ne-eqb _ _ (c .if1 .taken))
 -- row 5 passed
 passed5 : (c : tie.After-broken-at2) → after5 (at5 c) ≡ recordRows (at5 c)
 unfolding recordRows breaks
-passed5 c = simp (← c .before .before .broken-at .ensures, eq-eqb _ _ (c .before .if1 .left))
+passed5 c = simp (← c .before .before .before .broken-at .ensures, eq-eqb _ _ (c .before .before .if1 .left))
 
 returns-2 : tie.Need-returns-2
 unfolding breaks
@@ -53,7 +53,7 @@ returns-3 c = simp (← c .before .taxa-of .ensures, lt-ltb _ _ (c .if3 .taken))
 
 -- and row 7
 passed7 : (c : tie.After-broken-at3) → after7 (at7 c) ≡ recordRows (at7 c)
-passed7 c = simp (← c .before .before .taxa-of .ensures, le-ltb _ _ (c .before .if3 .left)) at (passed6 (c .before .before))
+passed7 c = simp (← c .before .before .before .taxa-of .ensures, le-ltb _ _ (c .before .before .if3 .left)) at (passed6 (c .before .before .before))
 
 returns-4 : tie.Need-returns-4
 unfolding breaks
@@ -67,12 +67,13 @@ pub check-records-spec : {M : Type 1} → statement M
 check-records-spec =
     tie.close
     (tie.spec
-    (λ c. search needs)
+    (λ c κs. search needs)
+    (λ c κs. search needs)
     returns
-    (λ c. search needs)
+    (λ c κs. search needs)
     returns-2
-    (λ c. search needs)
+    (λ c κs. search needs)
     returns-3
-    (λ c. search needs)
+    (λ c κs. search needs)
     returns-4
     returns-5)
