@@ -1,6 +1,7 @@
 # make run       the listing program on a small tree
 # make lib       the static library, target/staticlib/libplates.a
-# make install   libplates.a, plates.h and plates.pc under PREFIX (default /usr/local; DESTDIR is put before it)
+# make install   libplates.a, plates.h and plates.pc under PREFIX (default /usr/local; DESTDIR is put before it);
+#                make uninstall takes them away
 # make examples  the two example programs on tree A
 # make scale     the library as it is linked, compared with independent code
 # make bench     times beside other tools; those that are not installed are left out

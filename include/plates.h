@@ -128,6 +128,7 @@ extern "C" {
 #define PLATES_CAST_(type, value) ((type)(value))
 #endif
 
+/* The version of this header and of the library that it came with. */
 #define PLATES_VERSION "0.1.0"
 
 /* Limits. */

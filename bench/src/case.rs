@@ -4,6 +4,7 @@ use crate::instances::Instance;
 use crate::times::{timed, Times};
 use crate::tree::Tree;
 use crate::{glpk, iqtree, plain};
+use plates_scale::call::needed;
 use plates_scale::table::{self, Best};
 use plates_scale::{library, outline};
 use std::fmt::Debug;
@@ -20,16 +21,13 @@ pub struct Buffers {
 
 impl Buffers {
     pub fn new(records: usize, count: u32) -> Self {
+        let [marks, curve, work] = needed(records, count);
         Buffers {
-            marks: vec![0; records],
-            curve: vec![0; curve_len(count)],
-            work: vec![0; library::work_len(records, count)],
+            marks: vec![0; marks],
+            curve: vec![0; curve],
+            work: vec![0; work],
         }
     }
-}
-
-fn curve_len(count: u32) -> usize {
-    2 * (count as usize + 1)
 }
 
 /// Whether a peer that may be slow is to run once more: five times in all, or once if that takes more than a second.
@@ -97,18 +95,20 @@ impl Case {
         }
     }
 
-    fn work_len(&self) -> usize {
-        library::work_len(self.tree.records.len(), self.count)
+    /// The needed lengths of marks, curve and work.
+    fn needed(&self) -> [usize; 3] {
+        needed(self.tree.records.len(), self.count)
     }
 
     fn choose(&self, buffers: &mut Buffers) -> [u32; 6] {
+        let [marks, curve, work] = self.needed();
         library::choose(
             &self.outline,
             self.count,
             self.way,
-            &mut buffers.marks[..self.tree.records.len()],
-            &mut buffers.curve[..curve_len(self.count)],
-            &mut buffers.work[..self.work_len()],
+            &mut buffers.marks[..marks],
+            &mut buffers.curve[..curve],
+            &mut buffers.work[..work],
         )
     }
 
@@ -137,7 +137,8 @@ impl Case {
         let (answer, seconds) = timed(|| self.choose(buffers));
         black_box(answer);
         self.plates.add(seconds);
-        let work = black_box(&mut buffers.work[..self.work_len()]);
+        let [_, _, work] = self.needed();
+        let work = black_box(&mut buffers.work[..work]);
         let ((), seconds) = timed(|| work.fill(0));
         black_box(work);
         self.clearing.add(seconds);

@@ -58,10 +58,12 @@ module _ (o : List ℕ) where
       low = omega (arith, t .low);
       long = counted-length _ _ ∙ counted-length _ _ ∙ t .long;
       each = λ q u.
-          let e = counted-at (counted (next o r) l) (first o r) (counted-length l (next o r) ∙ t .long) q u in
-          let d = counted-at l (next o r) (t .long) q u in
-          let same : getD (counted (first o r) (counted (next o r) l)) q 0 ≡ getD l q 0 + (one (eqb (next o r) q) + one (eqb (first o r) q)) = omega (arith, e, d) in
-          rw same (summing-goes (naming o q) n (t .each q u) h refl (omega (arith, one-le (eqb (next o r) q), one-le (eqb (first o r) q))));
+          let l′ = counted (next o r) l in
+          let by-next = counted-at l (next o r) (t .long) q u in
+          let by-first = counted-at l′ (first o r) (counted-length l (next o r) ∙ t .long) q u in
+          let v = one (eqb (next o r) q) + one (eqb (first o r) q) in
+          let both : getD (counted (first o r) l′) q 0 ≡ getD l q 0 + v = omega (arith, by-next, by-first) in
+          rw both (summing-goes (naming o q) n (t .each q u) h refl (omega (arith, one-le (eqb (next o r) q), one-le (eqb (first o r) q))));
     }
 
     -- no count overflows, before and after the first of the record's two links

@@ -51,12 +51,10 @@ module _ (o : List ℕ) where
   unfolding sizeRows recordRows
   records-placed z =
       let (_, _, few) = sizes-kept o z in
+      let many = ltb mostTaxa (taxa o) in
       then-placed _ _ (row-at-placed 5 (badField o) (omega arith) few)
       (λ _. then-placed _ _ (row-at-placed 6 (badLink o) (omega arith) few)
-      (λ _. then-placed (row 7 crowded) _ (row-placed 7 crowded (omega arith)) (λ _. row-at-placed 8 (isDuplicate o) (omega arith) few)))
-    where
-      crowded : Bool
-      crowded = ltb mostTaxa (taxa o)
+      (λ _. then-placed (row 7 many) _ (row-placed 7 many (omega arith)) (λ _. row-at-placed 8 (isDuplicate o) (omega arith) few)))
 
   pub checked-placed : Placed (checked o)
   unfolding checked

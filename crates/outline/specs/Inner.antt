@@ -18,7 +18,7 @@ pub record IsRecord (o : List ℕ) (r : ℕ) : Type 0 where
 
 -- record numbers are below this, with 0 for no record
 abbrev pub numbers : ℕ
-numbers = 128
+numbers = mostRecords + 1
 
 -- a table of counts with one more for a link, if the table has a place for it
 unfoldable pub counted : ℕ → List ℕ → List ℕ

@@ -12,9 +12,10 @@ use super::fields::is_taxon;
 use super::fields::next_of;
 use super::fields::plate_of;
 use super::fields::price_of;
+use super::verdict::MOST_RECORDS;
 
 // Record numbers are below this, with 0 for no record.
-pub const NUMBERS: usize = 128;
+pub const NUMBERS: usize = MOST_RECORDS + 1;
 
 // The rules that each record has to keep.
 pub enum Rule {

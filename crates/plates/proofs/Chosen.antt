@@ -14,6 +14,7 @@ use Rattle.choice.specs.declared.answer.Answer.{Answer}
 use Rattle.choice.proofs.FirstRow.{First, no-row, one-row, judged-first}
 use Rattle.plates.specs.Interface.{six, Chosen}
 
+-- what `choose` answers and leaves is what the C interface gives and leaves
 pub answered-chosen : {c : Call} {a : Answer} {n : ℕ} {answer marks curve work : List ℕ}
     → Answered c a marks curve work → n ≡ told a .number → answer ≡ six (told a) → Chosen c n answer marks curve work
 answered-chosen h number numbers = record {

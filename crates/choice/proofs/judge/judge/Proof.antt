@@ -2,6 +2,7 @@
 use Prim.Native.Nat.{_≤_}
 use mathlib.Core.Path.{_≡_}
 use mathlib.Core.Bool.{Bool, true, false, _&&_, not}
+use native.Mathlib.Omega.{arith}
 use lib.Dec.{eqb, ltb}
 use borrow.Author.Needs.{needs}
 use borrow.Author.Tests.{lt-ltb, le-ltb}
@@ -24,12 +25,9 @@ at2 c = call (c .before .before .before .before .before .before)
 abbrev at5 : tie.After-check-records → Call
 at5 c = at2 (c .before .before .before .before)
 
--- rows 1 and 4, by their conditions
+-- the condition of row 1
 abbrev unknownWay : Call → Bool
 unknownWay c = not (eqb (c .way) 0) && not (eqb (c .way) 1)
-
-abbrev tooLarge : Call → Bool
-tooLarge c = ltb mostCount (c .count)
 
 -- the rows that are left after row 8, 4, 3 and 1
 abbrev after8 : Call → Told
@@ -39,7 +37,7 @@ abbrev after4 : Call → Told
 after4 c = recordRows (c .outline) ▸ after8 c
 
 abbrev after3 : Call → Told
-after3 c = row 4 (tooLarge c) ▸ after4 c
+after3 c = row 4 (ltb mostCount (c .count)) ▸ after4 c
 
 abbrev after1 : Call → Told
 after1 c = sizeRows (c .outline) ▸ after3 c
@@ -70,12 +68,14 @@ few c =
 
 returns-3 : tie.Need-returns-3
 returns-3 c =
-    let holds : tooLarge (at2 (c .before .before .before)) ≡ true = lt-ltb _ _ (c .if2 .taken) in
+    let holds = lt-ltb mostCount (at2 (c .before .before .before) .count) (omega (arith, c .if2 .taken)) in
     simp holds at (passed3 (c .before))
 
 -- and row 4
 passed4 : (c : tie.After-check-records) → after4 (at5 c) ≡ judged (at5 c)
-passed4 c = let fails : tooLarge (at5 c) ≡ false = le-ltb _ _ (c .before .if2 .left) in simp fails at (passed3 (c .before .before))
+passed4 c =
+    let fails = le-ltb mostCount (at5 c .count) (omega (arith, c .before .if2 .left)) in
+    simp fails at (passed3 (c .before .before))
 
 returns-4 : tie.Need-returns-4
 returns-4 c =

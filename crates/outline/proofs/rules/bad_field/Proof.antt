@@ -6,11 +6,19 @@ use Rattle.outline.proofs.rules.bad_field.Tie as tie
 
 returns : tie.Need-returns
 unfolding badField
-returns c = simp (← c .before .is-taxon .ensures, c .if1 .taken) cc
+returns c =
+    let plate = c .before .before in
+    let price = plate .before in
+    rw (price .before .branch-of .ensures, price .price-of .ensures, plate .plate-of .ensures)
+    (simp (← c .before .is-taxon .ensures, c .if1 .taken))
 
 returns-2 : tie.Need-returns-2
 unfolding badField
-returns-2 c = simp (← c .before .is-taxon .ensures, c .if1 .left) cc
+returns-2 c =
+    let plate = c .before .before in
+    let price = plate .before in
+    rw (price .before .branch-of .ensures, price .price-of .ensures, plate .plate-of .ensures)
+    (simp (← c .before .is-taxon .ensures, c .if1 .left))
 
 pub bad-field-spec : {M : Type 1} → statement M
 bad-field-spec =

@@ -1,7 +1,5 @@
 -- `outline::rules::count_link` meets its contract.
-use mathlib.Core.Path.{_≡_}
-use mathlib.Core.Bool.{true, false}
-use lib.Dec.{ltb}
+use native.Mathlib.Omega.{arith}
 use borrow.Author.Needs.{needs}
 use borrow.Author.Tests.{lt-ltb, le-ltb}
 use Rattle.outline.specs.Inner.{numbers, counted}
@@ -10,11 +8,11 @@ use Rattle.outline.proofs.rules.count_link.Tie as tie
 
 returns : tie.Need-returns
 unfolding counted
-returns c = let inside : ltb (c .before .before .args .link) numbers ≡ true = lt-ltb _ _ (c .before .if1 .taken) in rw inside
+returns c = rw (lt-ltb (c .before .before .args .link) numbers (omega (arith, c .before .if1 .taken)))
 
 returns-2 : tie.Need-returns-2
 unfolding counted
-returns-2 c = let beyond : ltb (c .before .args .link) numbers ≡ false = le-ltb _ _ (c .if1 .left) in rw beyond
+returns-2 c = rw (le-ltb (c .before .args .link) numbers (omega (arith, c .if1 .left)))
 
 pub count-link-spec : {M : Type 1} → statement M
 count-link-spec =

@@ -2,6 +2,7 @@
 use Prim.Native.Nat.{ℕ}
 use mathlib.Core.Path.{_≡_}
 use mathlib.Core.List.{List}
+use native.Mathlib.Omega.{arith}
 use lib.Dec.{ltb}
 use borrow.Author.Needs.{needs}
 use borrow.Author.Tests.{lt-ltb, le-ltb, eq-eqb, ne-eqb}
@@ -49,11 +50,15 @@ unfolding breaks
 passed6 c = simp (← c .before .before .broken-at2 .ensures, eq-eqb _ _ (c .before .if2 .left)) at (passed5 (c .before .before))
 
 returns-3 : tie.Need-returns-3
-returns-3 c = simp (← c .before .taxa-of .ensures, lt-ltb _ _ (c .if3 .taken)) at (passed6 (c .before))
+returns-3 c =
+    let t = c .before in
+    simp (← t .taxa-of .ensures, lt-ltb mostTaxa (t .taxa-of .result) (omega (arith, c .if3 .taken))) at (passed6 t)
 
 -- and row 7
 passed7 : (c : tie.After-broken-at3) → after7 (at7 c) ≡ recordRows (at7 c)
-passed7 c = simp (← c .before .before .before .taxa-of .ensures, le-ltb _ _ (c .before .before .if3 .left)) at (passed6 (c .before .before .before))
+passed7 c =
+    let t = c .before .before .before in
+    simp (← t .taxa-of .ensures, le-ltb mostTaxa (t .taxa-of .result) (omega (arith, c .before .before .if3 .left))) at (passed6 t)
 
 returns-4 : tie.Need-returns-4
 unfolding breaks
