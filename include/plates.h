@@ -93,14 +93,17 @@
  *
  * WHAT THE CALLER HAS TO KEEP
  *
+ * marks, curve and work are lent space: buffers that a choice is written to, and that a refusal leaves as they were. answer and
+ * place are no lent space. They carry the numbers that a call gives, so they are written in any case, on a refusal too.
+ *
  * - No pointer is null, not even where the length is 0, and each points to at least as many elements as its length says.
  *   Lengths are numbers of elements: outline_len and marks_len in bytes, curve_len in uint32_t, work_len in uint64_t.
  *   answer has 6 elements, place has 1.
- * - Each buffer is aligned as its element type asks. outline and marks may begin at any byte.
- * - No buffer overlaps another one or the outline; answer and place count as buffers.
- * - While a call runs, nobody else writes the outline, and nobody else reads or writes the other buffers.
+ * - Each pointer is aligned as its element type asks. outline and marks may begin at any byte.
+ * - Of marks, curve, work, answer and place none overlaps another one or the outline.
+ * - While a call runs, nobody else writes the outline, and nobody else reads or writes any of those five.
  *
- * What stands in marks, curve, work, answer and place before a call makes no difference; they need not be initialised.
+ * What stands in the five before a call makes no difference; they need not be initialised.
  *
  *
  * WHAT THE LIBRARY KEEPS
@@ -140,14 +143,16 @@ extern "C" {
 #define PLATES_MOST_PRICE 65535
 
 /*
- * How many elements each buffer has to have. They are constant expressions where their arguments are, so that they can size an
- * array. The arguments have to be within the limits: a count above PLATES_MOST_COUNT is refused whatever the buffers are.
+ * How many elements an outline has, and how many each buffer has to have. They are constant expressions where their arguments
+ * are, so that they can size an array. The arguments have to be within the limits: a count above PLATES_MOST_COUNT is refused
+ * whatever the buffers are.
  *
  *     outline   bytes       PLATES_OUTLINE_LEN(records)
  *     marks     bytes       PLATES_MARKS_LEN(records)
  *     curve     uint32_t    PLATES_CURVE_LEN(count)
  *     work      uint64_t    PLATES_WORK_LEN(records, count)
- *     answer    uint32_t    PLATES_ANSWER_LEN, see below
+ *
+ * answer is no buffer, and always has PLATES_ANSWER_LEN uint32_t: see below.
  */
 #define PLATES_OUTLINE_LEN(records) (PLATES_CAST_(size_t, PLATES_RECORD_BYTES) * PLATES_CAST_(size_t, records))
 #define PLATES_MARKS_LEN(records) PLATES_CAST_(size_t, records)
@@ -169,8 +174,11 @@ enum plates_way {
 };
 
 /*
- * What the functions give: PLATES_OK or a refusal. They are judged in this order, and the first that holds is given. A refusal
- * has a place: the number of the record at fault, from 1, or 0 where no one record is.
+ * What plates_check and plates_choose give: PLATES_OK or a refusal. Refusals are judged in this order, and the first that holds
+ * is given. A refusal has a place: the number of the record at fault, from 1, or 0 where no one record is.
+ *
+ * Later versions add refusals, with numbers from 10 on. So treat any number other than PLATES_OK as a refusal, also one that is
+ * not named here: give a switch over these a default.
  */
 enum plates_refusal {
     /* The call is accepted; place 0. */

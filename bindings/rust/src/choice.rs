@@ -44,32 +44,38 @@ pub struct Choice {
 
 impl Choice {
     /// The diversity of the chosen set.
+    #[must_use]
     pub fn diversity(&self) -> u32 {
         self.diversity
     }
 
     /// The sum of the chosen taxa's prices, in quarter pages.
+    #[must_use]
     pub fn cost(&self) -> u32 {
         self.cost
     }
 
     /// How many quarters the page count could be lower at the same diversity: the page count minus
     /// the cost.
+    #[must_use]
     pub fn spare(&self) -> u32 {
         self.spare
     }
 
     /// The chosen taxa, in record order.
+    #[must_use]
     pub fn taxa(&self) -> &[Record] {
         &self.taxa
     }
 
     /// For each record, in order, 1 if it is a chosen taxon, else 0.
+    #[must_use]
     pub fn marks(&self) -> &[u8] {
         &self.marks
     }
 
     /// The best for each count from 0 to the page count: that for count b stands at index b.
+    #[must_use]
     pub fn curve(&self) -> &[Column] {
         &self.curve
     }
@@ -88,6 +94,7 @@ pub struct Work {
 
 impl Work {
     /// No memory yet.
+    #[must_use]
     pub fn new() -> Work {
         Work::default()
     }
@@ -110,6 +117,26 @@ fn grow<T: Clone + Default>(buffer: &mut Vec<T>, len: usize) {
 impl fmt::Debug for Work {
     fn fmt(&self, f: &mut fmt::Formatter<'_>) -> fmt::Result {
         f.debug_struct("Work").finish_non_exhaustive()
+    }
+}
+
+impl Outline {
+    /// Chooses the best taxa for a page count: [`choose`] as a method.
+    ///
+    /// # Errors
+    ///
+    /// As [`choose`].
+    ///
+    /// ```
+    /// use plates::{Tree, Way};
+    ///
+    /// let outline = Tree::group(0, [Tree::taxon(11, 4, 3), Tree::taxon(12, 2, 1)]).outline()?;
+    /// let choice = outline.choose(3, Way::Rooted)?;
+    /// assert_eq!((choice.diversity(), choice.cost()), (4, 3));
+    /// # Ok::<(), Box<dyn std::error::Error>>(())
+    /// ```
+    pub fn choose(&self, count: u32, way: Way) -> Result<Choice, Refusal> {
+        choose(self, count, way)
     }
 }
 

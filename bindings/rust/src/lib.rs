@@ -7,11 +7,12 @@
 //! among all the sets that fit, no other is better. In the literature the problem is called
 //! phylogenetic diversity under a budget (Pardi and Goldman, Systematic Biology 56(3), 2007).
 //!
-//! A [`Tree`] is built by nesting and makes an [`Outline`], which is checked once. [`choose`] gives
-//! a [`Choice`] for an outline, a page count and a [`Way`].
+//! A [`Tree`] is built by nesting and makes an [`Outline`], which is checked once. [`choose`], also
+//! a method of the outline, gives a [`Choice`] for an outline, a page count and a [`Way`]. What is
+//! wrong with an outline or a page count is told as a [`Refusal`].
 //!
 //! ```
-//! use plates::{choose, Tree, Way};
+//! use plates::{Tree, Way};
 //!
 //! // Branch lengths on the tree, then each taxon's plate and its price:
 //! //
@@ -24,7 +25,7 @@
 //! ])
 //! .outline()?;
 //!
-//! let choice = choose(&outline, 5, Way::Rooted)?;
+//! let choice = outline.choose(5, Way::Rooted)?;
 //! let plates: Vec<u32> = choice.taxa().iter().map(|taxon| taxon.plate).collect();
 //! assert_eq!(plates, [11, 13]);
 //! assert_eq!((choice.diversity(), choice.cost()), (12, 5));

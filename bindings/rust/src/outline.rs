@@ -30,6 +30,7 @@ pub struct Record {
 
 impl Record {
     /// Whether the record is a taxon, and not a group.
+    #[must_use]
     pub fn is_taxon(&self) -> bool {
         self.first == 0
     }
@@ -84,7 +85,7 @@ pub struct Outline {
 }
 
 impl Outline {
-    /// Checks the bytes of an outline, and takes a copy of them.
+    /// Checks the bytes of an outline, and takes a copy of them. [`TryFrom`] does the same.
     ///
     /// # Errors
     ///
@@ -100,17 +101,20 @@ impl Outline {
     }
 
     /// The outline's bytes.
+    #[must_use]
     pub fn as_bytes(&self) -> &[u8] {
         &self.bytes
     }
 
     /// The records in order, groups and taxa.
+    #[must_use]
     pub fn records(&self) -> impl DoubleEndedIterator<Item = Record> + ExactSizeIterator + '_ {
         let parts = self.bytes.chunks_exact(RECORD_BYTES).enumerate();
         parts.map(|(index, bytes)| Record::from_bytes(index as u32 + 1, bytes))
     }
 
     /// The record of a number, from 1.
+    #[must_use]
     pub fn record(&self, number: u32) -> Option<Record> {
         let index = usize::try_from(number).ok()?.checked_sub(1)?;
         self.records().nth(index)
@@ -131,6 +135,7 @@ impl Outline {
     /// assert_eq!(outline.find(13), None);
     /// # Ok::<(), plates::TreeError>(())
     /// ```
+    #[must_use]
     pub fn find(&self, plate: u32) -> Option<Record> {
         // SAFETY: pointer and length are those of one slice.
         let number = unsafe { sys::plates_find(self.bytes.as_ptr(), self.bytes.len(), plate) };
@@ -142,6 +147,25 @@ impl Outline {
 impl fmt::Debug for Outline {
     fn fmt(&self, f: &mut fmt::Formatter<'_>) -> fmt::Result {
         f.debug_list().entries(self.records()).finish()
+    }
+}
+
+/// Checks the bytes of an outline, as [`Outline::from_bytes`] does.
+///
+/// ```
+/// use plates::{Outline, Refusal};
+///
+/// let taxon: &[u8] = &[0, 0, 0, 0, 5, 0, 0, 0, 1, 0, 0, 0, 7, 0, 0, 0];
+/// let outline: Outline = taxon.try_into()?;
+/// assert_eq!(outline.as_bytes(), taxon);
+/// assert_eq!(Outline::try_from(&taxon[1..]), Err(Refusal::PartialRecord));
+/// # Ok::<(), Refusal>(())
+/// ```
+impl TryFrom<&[u8]> for Outline {
+    type Error = Refusal;
+
+    fn try_from(bytes: &[u8]) -> Result<Outline, Refusal> {
+        Outline::from_bytes(bytes)
     }
 }
 

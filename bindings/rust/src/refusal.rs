@@ -6,11 +6,26 @@ use std::fmt;
 /// Why an outline or a call is refused. Where several reasons hold, the first in this order is
 /// given.
 ///
-/// These nine are all there are, and the enum can be matched on without a rest: the library's table
-/// of refusals is fixed. Through the safe interface only some of them can arise: an
-/// [`Outline`](crate::Outline) is refused with numbers 2, 3 and 5 to 8, choosing with number 4.
-/// Numbers 1 and 9 are for those who call [`sys`](crate::sys).
+/// The library's table of refusals grows: later versions add numbers from 10 on. So a `match` has an
+/// arm for the rest, and a number that these bindings do not know is a refusal all the same, as
+/// [`Other`](Refusal::Other).
+///
+/// Through the safe interface only some of them arise: an [`Outline`](crate::Outline) is refused
+/// with numbers 2, 3 and 5 to 8, choosing with number 4. Numbers 1 and 9 are for those who call
+/// [`sys`](crate::sys).
+///
+/// ```
+/// use plates::{Outline, Refusal};
+///
+/// let told = match Outline::from_bytes(&[0; 15]) {
+///     Ok(_) => "sound".to_string(),
+///     Err(Refusal::PartialRecord) => "cut off".to_string(),
+///     Err(refusal) => refusal.to_string(),
+/// };
+/// assert_eq!(told, "cut off");
+/// ```
 #[derive(Clone, Copy, Debug, PartialEq, Eq, Hash)]
+#[non_exhaustive]
 pub enum Refusal {
     /// 1: the way is neither 0 nor 1.
     UnknownWay,
@@ -40,20 +55,35 @@ pub enum Refusal {
     },
     /// 9: marks, curve or work is too short.
     BufferTooShort,
+    /// A number that these bindings do not know, from a later version of the library. A later
+    /// version of the bindings may have a name for it.
+    #[non_exhaustive]
+    Other {
+        /// The refusal's number: none of those above, and not 0.
+        number: u32,
+        /// The number of the record at fault, from 1, or 0 where no one record is.
+        place: u32,
+    },
 }
 
 impl Refusal {
-    /// The refusal of a number and a place, as the C interface gives them. `None` for a number that
-    /// isn't that of a refusal: 0, or above 9.
+    /// The refusal of a number and a place, as the C interface gives them. `None` for number 0,
+    /// which is no refusal.
     ///
     /// ```
     /// use plates::Refusal;
     ///
     /// assert_eq!(Refusal::from_parts(6, 3), Some(Refusal::BadLink { record: 3 }));
     /// assert_eq!(Refusal::from_parts(0, 0), None);
+    ///
+    /// let later = Refusal::from_parts(4_000, 3).expect("every number but 0 is a refusal");
+    /// assert!(matches!(later, Refusal::Other { number: 4_000, .. }));
+    /// assert_eq!(later.place(), Some(3));
     /// ```
+    #[must_use]
     pub fn from_parts(number: u32, place: u32) -> Option<Refusal> {
         Some(match number {
+            0 => return None,
             1 => Refusal::UnknownWay,
             2 => Refusal::PartialRecord,
             3 => Refusal::TooManyRecords,
@@ -63,19 +93,20 @@ impl Refusal {
             7 => Refusal::TooManyTaxa,
             8 => Refusal::DuplicatePlate { record: place },
             9 => Refusal::BufferTooShort,
-            _ => return None,
+            _ => Refusal::Other { number, place },
         })
     }
 
     // What a call has answered, as a result.
     pub(crate) fn judge(number: u32, place: u32) -> Result<(), Refusal> {
-        if number == 0 {
-            return Ok(());
+        match Refusal::from_parts(number, place) {
+            None => Ok(()),
+            Some(refusal) => Err(refusal),
         }
-        Err(Refusal::from_parts(number, place).expect("the library gives numbers 0 to 9"))
     }
 
-    /// The refusal's number, 1 to 9.
+    /// The refusal's number, 1 or more.
+    #[must_use]
     pub fn number(self) -> u32 {
         match self {
             Refusal::UnknownWay => 1,
@@ -87,15 +118,18 @@ impl Refusal {
             Refusal::TooManyTaxa => 7,
             Refusal::DuplicatePlate { .. } => 8,
             Refusal::BufferTooShort => 9,
+            Refusal::Other { number, .. } => number,
         }
     }
 
     /// The number of the record at fault, where one record is.
+    #[must_use]
     pub fn place(self) -> Option<u32> {
         match self {
             Refusal::FieldOutOfRange { record }
             | Refusal::BadLink { record }
             | Refusal::DuplicatePlate { record } => Some(record),
+            Refusal::Other { place, .. } if place != 0 => Some(place),
             _ => None,
         }
     }
@@ -103,6 +137,9 @@ impl Refusal {
 
 impl fmt::Display for Refusal {
     fn fmt(&self, f: &mut fmt::Formatter<'_>) -> fmt::Result {
+        if let Some(record) = self.place() {
+            write!(f, "record {record}: ")?;
+        }
         let reason = match self {
             Refusal::UnknownWay => "the way is neither rooted (0) nor unrooted (1)",
             Refusal::PartialRecord => {
@@ -118,12 +155,37 @@ impl fmt::Display for Refusal {
             Refusal::TooManyTaxa => "the outline has more than 64 taxa",
             Refusal::DuplicatePlate { .. } => "an earlier taxon has the same plate",
             Refusal::BufferTooShort => "marks, curve or work is too short",
+            Refusal::Other { number, .. } => {
+                return write!(f, "refusal {number}, which these bindings do not know");
+            }
         };
-        match self.place() {
-            Some(record) => write!(f, "record {record}: {reason}"),
-            None => f.write_str(reason),
-        }
+        f.write_str(reason)
     }
 }
 
 impl Error for Refusal {}
+
+#[cfg(test)]
+mod tests {
+    use super::Refusal;
+
+    fn judged(number: u32, place: u32) -> Refusal {
+        Refusal::judge(number, place).expect_err("every number but 0 is a refusal")
+    }
+
+    #[test]
+    fn every_number_but_0_is_a_refusal() {
+        assert_eq!(Refusal::judge(0, 0), Ok(()));
+        for number in (1..=100).chain([u32::MAX]) {
+            assert_eq!(judged(number, 3).number(), number);
+        }
+    }
+
+    // The library gives none of these numbers, so only the conversion can be tried.
+    #[test]
+    fn numbers_without_a_name_are_kept() {
+        for (number, place) in [(4_000, 0), (4_000, 3), (u32::MAX, u32::MAX)] {
+            assert_eq!(judged(number, place), Refusal::Other { number, place });
+        }
+    }
+}

@@ -4,7 +4,9 @@
 //! What each function gives and writes is said in `plates.h`. In short: pointers are not null (also
 //! where a length is 0), each points to as many elements as its length says and is aligned for
 //! them, and no two of them overlap. Nothing else is asked of the caller, whatever the outline
-//! holds.
+//! holds. A refusal leaves the lent buffers `marks`, `curve` and `work` as they were; `answer` and
+//! `place` carry the numbers given and are written in any case. Every number but 0 is a refusal,
+//! and later versions add some.
 //!
 //! ```
 //! use plates::sys;
@@ -38,7 +40,7 @@
 //! ```
 
 extern "C" {
-    /// Gives 0 or the number of the refusal of an outline, and writes its place.
+    /// Gives 0 or the number of the refusal of an outline, and writes its place, 0 if it is sound.
     ///
     /// # Safety
     ///
@@ -54,9 +56,9 @@ extern "C" {
     /// `outline` can be read for `outline_len` bytes and is not null.
     pub fn plates_find(outline: *const u8, outline_len: usize, plate: u32) -> u32;
 
-    /// Chooses the best taxa for a page count: gives 0 or the refusal's number, and writes the six
-    /// numbers of `answer` (number, place, diversity, cost, taxa, spare). Unless it refuses, it
-    /// also writes `marks` and `curve`, and leaves `work` cleared.
+    /// Chooses the best taxa for a page count: gives 0 or the refusal's number, and in any case
+    /// writes the six numbers of `answer` (number, place, diversity, cost, taxa, spare). Unless it
+    /// refuses, it also writes `marks` and `curve`, and leaves `work` cleared.
     ///
     /// # Safety
     ///
@@ -79,18 +81,21 @@ extern "C" {
 }
 
 /// How many bytes of marks choosing needs.
+#[must_use]
 pub const fn marks_len(records: usize) -> usize {
     records
 }
 
 /// How many numbers of curve choosing needs, for a count of at most
 /// [`MOST_COUNT`](crate::MOST_COUNT).
+#[must_use]
 pub const fn curve_len(count: u32) -> usize {
     2 * (count as usize + 1)
 }
 
 /// How many numbers of work choosing needs, for at most [`MOST_RECORDS`](crate::MOST_RECORDS)
 /// records and a count of at most [`MOST_COUNT`](crate::MOST_COUNT).
+#[must_use]
 pub const fn work_len(records: usize, count: u32) -> usize {
     4 * (records + 2) * (count as usize + 1)
 }

@@ -26,6 +26,7 @@ use std::fmt;
 /// # Ok::<(), plates::TreeError>(())
 /// ```
 #[derive(Clone, Debug)]
+#[must_use = "a tree is of use once it is a member of a group, or its outline is made"]
 pub struct Tree {
     // In the order of the records, and flat, so that neither building nor dropping a deep tree
     // recurses.
@@ -94,8 +95,13 @@ impl Tree {
     ///
     /// # Errors
     ///
-    /// [`TreeError::EmptyGroup`] if a group has no members; otherwise [`TreeError::Refused`] with
-    /// what is wrong with the outline.
+    /// [`TreeError::EmptyGroup`] if a group has no members, whatever else is wrong; of a tree that
+    /// is too large only the first records are looked at, one more than an outline can have.
+    ///
+    /// Otherwise [`TreeError::Refused`] with the first of these that holds:
+    /// [`Refusal::TooManyRecords`], [`Refusal::FieldOutOfRange`], [`Refusal::TooManyTaxa`],
+    /// [`Refusal::DuplicatePlate`]. No other refusal arises: the records are whole and their links
+    /// are made here.
     ///
     /// ```
     /// use plates::{Refusal, Tree, TreeError};

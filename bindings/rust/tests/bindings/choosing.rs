@@ -57,6 +57,21 @@ fn each_column_is_the_choice_for_its_count() {
 }
 
 #[test]
+fn outlines_choose_for_themselves() {
+    for outline in outlines() {
+        for way in WAYS {
+            for count in [0, 7, 40] {
+                assert_eq!(outline.choose(count, way), choose(&outline, count, way));
+            }
+            let refused = outline.choose(MOST_COUNT + 1, way);
+            assert_eq!(refused, Err(Refusal::CountTooLarge));
+        }
+    }
+    let of_tree_a = WAYS.map(|way| tree_a().choose(2, way).unwrap().diversity());
+    assert_eq!(of_tree_a, [5, 0]);
+}
+
+#[test]
 fn memory_used_again_changes_nothing() {
     let mut work = Work::new();
     for count in [0, 300, 7, 40] {

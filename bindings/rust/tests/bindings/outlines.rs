@@ -1,7 +1,7 @@
 //! Outlines from bytes: their records, and finding a plate.
 
 use crate::support::{bytes, sound, star, tree_a, TREE_A};
-use plates::{Outline, Record};
+use plates::{Outline, Record, Refusal};
 
 #[test]
 fn records_have_the_fields() {
@@ -49,6 +49,17 @@ fn free_taxa_are_taxa() {
 fn bytes_are_kept() {
     assert_eq!(tree_a().as_bytes(), bytes(&TREE_A));
     assert_eq!(tree_a().as_ref(), bytes(&TREE_A));
+}
+
+#[test]
+fn bytes_become_outlines() {
+    let mut whole = bytes(&TREE_A);
+    assert_eq!(Outline::try_from(&whole[..]), Ok(tree_a()));
+    let cut: Result<Outline, Refusal> = whole[..79].try_into();
+    assert_eq!(cut, Err(Refusal::PartialRecord));
+    whole[64] = 1;
+    let refusal = Refusal::BadLink { record: 5 };
+    assert_eq!(Outline::try_from(&whole[..]), Err(refusal));
 }
 
 #[test]

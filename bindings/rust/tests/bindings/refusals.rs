@@ -230,9 +230,22 @@ fn numbers_and_places() {
         assert_eq!(refusal.number(), number);
         let has_place = [5, 6, 8].contains(&number);
         assert_eq!(refusal.place(), has_place.then_some(7));
+        assert!(!matches!(refusal, Refusal::Other { .. }));
     }
-    for number in [0, 10, u32::MAX] {
-        assert_eq!(Refusal::from_parts(number, 0), None);
+    for place in [0, 7] {
+        assert_eq!(Refusal::from_parts(0, place), None);
+    }
+}
+
+#[test]
+fn numbers_of_later_versions() {
+    for number in [4_000, u32::MAX] {
+        for place in [0, 7] {
+            let refusal = Refusal::from_parts(number, place).expect("not 0");
+            assert!(matches!(refusal, Refusal::Other { .. }));
+            assert_eq!(refusal.number(), number);
+            assert_eq!(refusal.place(), (place != 0).then_some(place));
+        }
     }
 }
 
@@ -245,4 +258,8 @@ fn refusals_are_errors_with_a_sentence() {
     );
     let count = Refusal::CountTooLarge.to_string();
     assert_eq!(count, "the page count is above 4096 quarters");
+    let later = |place| Refusal::from_parts(4_000, place).map(|refusal| refusal.to_string());
+    let sentence = "refusal 4000, which these bindings do not know";
+    assert_eq!(later(0).as_deref(), Some(sentence));
+    assert_eq!(later(7), Some(format!("record 7: {sentence}")));
 }

@@ -57,6 +57,34 @@ fn empty_groups_are_errors() {
 }
 
 #[test]
+fn empty_groups_come_before_refusals() {
+    let bad_field = Tree::taxon(0, 0, 0);
+    let tree = Tree::group(0, [bad_field, Tree::group(2, [])]);
+    assert_eq!(tree.outline(), Err(TreeError::EmptyGroup { record: 3 }));
+    // taxa, and then a group without members: of a tree that is too large, record 128 is the last
+    // one that is looked at
+    let after = |taxa: u32| {
+        let members = (1..=taxa).map(taxon);
+        Tree::group(0, members.chain([Tree::group(2, [])]))
+    };
+    let last = after(126).outline();
+    assert_eq!(last, Err(TreeError::EmptyGroup { record: 128 }));
+    assert_eq!(refused(after(127)), Refusal::TooManyRecords);
+}
+
+#[test]
+fn first_refusal_that_holds_is_given() {
+    let with = |taxa: u32, last: Tree| Tree::group(0, (1..=taxa).map(taxon).chain([last]));
+    let bad_field = || Tree::taxon(1, 1_000_001, 1);
+    assert_eq!(refused(with(126, bad_field())), Refusal::TooManyRecords);
+    let refusal = Refusal::FieldOutOfRange { record: 66 };
+    assert_eq!(refused(with(64, bad_field())), refusal);
+    assert_eq!(refused(with(64, taxon(1))), Refusal::TooManyTaxa);
+    let refusal = Refusal::DuplicatePlate { record: 65 };
+    assert_eq!(refused(with(63, taxon(1))), refusal);
+}
+
+#[test]
 fn fields_out_of_range_are_refused() {
     let faults = [
         Tree::taxon(2, 1_000_001, 0),
