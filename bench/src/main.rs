@@ -165,5 +165,5 @@ fn print(plan: &Plan, groups: &[Vec<Case>], sizes: &[Case]) {
     report::growth_with_count(groups);
     report::growth_with_records(sizes);
     report::agreement(groups.iter().flatten().chain(sizes));
-    report::targets(&largest);
+    report::worst(&largest);
 }

@@ -12,10 +12,6 @@ pub struct Missing {
 }
 
 const WAYS: [&str; 2] = ["rooted", "unrooted"];
-/// How many times faster than IQ-TREE each way is to be.
-const TIMES_FASTER: [f64; 2] = [4.0, 12.0];
-/// How many times as long as clearing `work` each way may take.
-const TIMES_CLEARING: [f64; 2] = [4.0, 12.0];
 
 const SIDE_BY_SIDE: &str = "\
 Milliseconds for 64 taxa: 127 records (star: 65), count 4,096 (case G: 4,095).
@@ -191,48 +187,39 @@ pub fn agreement<'a>(cases: impl Iterator<Item = &'a Case> + Clone) {
     );
 }
 
-/// Whether the speeds to be reached are reached, by the worst case of each way.
-pub fn targets(cases: &[&Case]) {
-    for way in 0..2 {
+/// How plates stands beside IQ-TREE and beside clearing `work`, by the worst case of each way.
+pub fn worst(cases: &[&Case]) {
+    for (way, name) in WAYS.iter().enumerate() {
         let mut of_way = cases.to_vec();
         of_way.retain(|case| case.way as usize == way);
-        beside_iqtree(&of_way, way);
-        beside_clearing(&of_way, way);
+        beside_iqtree(&of_way, name);
+        beside_clearing(&of_way, name);
     }
 }
 
-fn beside_iqtree(cases: &[&Case], way: usize) {
-    let (name, bound) = (WAYS[way], TIMES_FASTER[way]);
-    let target = format!(
-        "{name} at least {bound} times faster than IQ-TREE on every shape at the largest count"
-    );
+fn beside_iqtree(cases: &[&Case], way: &str) {
     let over = |iqtree: Option<f64>, plates: &Times| Some(iqtree? / plates.shortest()?);
     let medians = |case: &Case| Some(case.iqtree.search.median()? / case.plates.median()?);
     let shortest = |case: &Case| over(case.iqtree.search.shortest(), &case.plates);
     let process = |case: &Case| over(case.iqtree.beyond_empty(), &case.plates);
     let Some((least, shape)) = lowest(cases, medians) else {
-        println!("Target, {target}: not judged, IQ-TREE did not run.");
+        println!("Beside IQ-TREE, {way}: it did not run.");
         return;
     };
     println!(
-        "Target, {target}: {}. Smallest ratio of medians {} ({shape}).",
-        verdict(least >= bound),
-        digits(least)
-    );
-    println!(
-        "Beside it the smallest ratio by IQ-TREE's process is {}, by the shortest of its own figures {}.",
+        "Beside IQ-TREE, {way}, at the largest count: smallest ratio of medians {} ({shape}), by its process {}, by the \
+         shortest of its own figures {}.",
+        digits(least),
         lowest(cases, process).map_or(String::new(), |(least, _)| digits(least)),
         lowest(cases, shortest).map_or(String::new(), |(least, _)| digits(least))
     );
 }
 
-fn beside_clearing(cases: &[&Case], way: usize) {
-    let (name, bound) = (WAYS[way], TIMES_CLEARING[way]);
+fn beside_clearing(cases: &[&Case], way: &str) {
     let share = |case: &Case| Some(case.clearing.shortest()? / case.plates.shortest()?);
     if let Some((share, shape)) = lowest(cases, share) {
         println!(
-            "Target, {name} at most {bound} times clearing `work` on every shape: {}. Largest multiple {} ({shape}).\n",
-            verdict(1.0 / share <= bound),
+            "Beside clearing `work`, {way}: largest multiple {} ({shape}).\n",
             digits(1.0 / share)
         );
     }
@@ -244,12 +231,4 @@ fn lowest(cases: &[&Case], figure: impl Fn(&Case) -> Option<f64>) -> Option<(f64
     let named = figures?.into_iter().zip(cases);
     let (least, case) = named.min_by(|(one, _), (other, _)| one.total_cmp(other))?;
     Some((least, case.name.clone()))
-}
-
-fn verdict(reached: bool) -> &'static str {
-    if reached {
-        "reached"
-    } else {
-        "NOT reached"
-    }
 }
