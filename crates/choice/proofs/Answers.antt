@@ -9,15 +9,17 @@ use lib.Dec.{eqb, ltb}
 use lib.ListN.{length, take, drop, length-replicate}
 use lib.Seq.{length-take-le}
 use borrow.Author.Tests.{ltb-false, eqb-true, eqb-false}
-use Rattle.outline.specs.Lists.{pick}
-use Rattle.outline.specs.Refusals.{refusal, row, mostRecords, sizeRows, recordRows}
-use Rattle.outline.specs.declared.verdict.Refusal.{Refusal}
-use Rattle.outline.proofs.Bools.{both-false}
-use Rattle.outline.proofs.Refusals.{both-pass, row-fails, refusal-not-zero}
+use Rattle.lists.specs.Lists.{pick, over}
+use Rattle.lists.proofs.Bools.{both-false}
+use Rattle.refusals.specs.Refusals.{refusal, row}
+use Rattle.refusals.specs.declared.verdict.Refusal.{Refusal}
+use Rattle.refusals.proofs.Refusals.{both-pass, row-fails, refusal-not-zero}
+use Rattle.refusals.proofs.Placed.{Placed, row-placed, then-placed}
+use Rattle.outline.specs.Refusals.{mostRecords, sizeRows, recordRows}
 use Rattle.outline.proofs.Kept.{rows-kept}
-use Rattle.outline.proofs.Placed.{Placed, row-placed, then-placed, sizes-placed, records-placed}
-use Rattle.choice.specs.Answer.{Call, Answered, refused, mostCount, workTaken, tooShort, judged, isSelected, selected, reply}
-use Rattle.choice.specs.Answer.{curveOf, over, marksAfter, curveAfter, workAfter}
+use Rattle.outline.proofs.Placed.{sizes-placed, records-placed}
+use Rattle.choice.specs.Answer.{Call, Answered, refused, told, mostCount, workTaken, tooShort, judged, isSelected, selected, reply}
+use Rattle.choice.specs.Answer.{curveOf, marksAfter, curveAfter, workAfter}
 use Rattle.choice.specs.Inner.{Solvable, Solved}
 use Rattle.choice.specs.declared.answer.Answer.{Answer}
 
@@ -98,7 +100,7 @@ module _ (c : Call) where
 
     -- a selection
     pub solved-answered : {answer : Answer} {marks curve work : List ℕ} → Solved (withWork n) answer marks curve work
-        → Answered c answer marks curve (work ++ drop n (c .work))
+        → Answered c (told answer) marks curve (work ++ drop n (c .work))
     unfolding reply marksAfter curveAfter workAfter selected curveOf over
     solved-answered s = record {
       told-reply = rw e (s .told-selected);
@@ -108,7 +110,7 @@ module _ (c : Call) where
     }
 
   -- a refusal
-  pub refused-answered : (e : Refusal) → refusal e ≡ judged c → Answered c (Answer.Refused e) (c .marks) (c .curve) (c .work)
+  pub refused-answered : (e : Refusal) → refusal e ≡ judged c → Answered c (refused (refusal e)) (c .marks) (c .curve) (c .work)
   unfolding reply marksAfter curveAfter workAfter
   refused-answered e h =
       let number : isSelected c ≡ false = rw (← h) (refusal-not-zero e) in
@@ -120,16 +122,16 @@ module _ (c : Call) where
       }
 
   -- ---- how large the numbers of a refusal are
-  pub judged-placed : Placed (judged c)
+  pub judged-placed : Placed mostRecords (judged c)
   unfolding judged
   judged-placed =
       let unknown = not (eqb (c .way) 0) && not (eqb (c .way) 1) in
       let large = ltb mostCount (c .count) in
-      then-placed (row 1 unknown) _ (row-placed 1 unknown (omega arith))
-      (λ _. then-placed (sizeRows (c .outline)) _ (sizes-placed (c .outline))
-      (λ sized. then-placed (row 4 large) _ (row-placed 4 large (omega arith))
-      (λ _. then-placed (recordRows (c .outline)) _ (records-placed (c .outline) sized)
-      (λ _. row-placed 9 (tooShort c) (omega arith)))))
+      then-placed mostRecords (row 1 unknown) _ (row-placed mostRecords 1 unknown (omega arith))
+      (λ _. then-placed mostRecords (sizeRows (c .outline)) _ (sizes-placed (c .outline))
+      (λ sized. then-placed mostRecords (row 4 large) _ (row-placed mostRecords 4 large (omega arith))
+      (λ _. then-placed mostRecords (recordRows (c .outline)) _ (records-placed (c .outline) sized)
+      (λ _. row-placed mostRecords 9 (tooShort c) (omega arith)))))
 
   pub reply-place-most : reply c .place ≤ mostRecords
   unfolding reply selected

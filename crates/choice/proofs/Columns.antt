@@ -5,10 +5,10 @@ use mathlib.Core.List.{List}
 use native.Mathlib.Omega.{arith}
 use lib.ListN.{length, getD, set}
 use borrow.Author.Tests.{eq-eqb, ne-eqb}
-use Rattle.outline.specs.Lists.{from}
+use Rattle.lists.specs.Lists.{from, over}
+use Rattle.lists.proofs.Buffers.{Rising, rising-starts, rising-goes, rising-ends}
 use Rattle.diversity.specs.Search.{columnsAlike}
-use Rattle.choice.specs.Answer.{columns, over}
-use Rattle.choice.proofs.Buffers.{Rising, rising-starts, rising-goes, rising-ends}
+use Rattle.choice.specs.Answer.{columns}
 
 module _ (d c : ℕ → ℕ) where
   pub columns-long : (k n : ℕ) → length (columns d c (from k n)) ≡ 2 * n

@@ -1,82 +1,95 @@
 -- The mission's three demands, for every call: what the contract of `choose` says of the answer and the buffers is what they ask.
 use Prim.Native.Nat.{ℕ, _-_, _≤_}
 use mathlib.Core.Path.{_≡_, refl, sym, ap, _∙_}
-use mathlib.Core.Bool.{true, false}
-use mathlib.Core.List.{List}
+use mathlib.Core.Bool.{Bool, true, false}
+use mathlib.Core.List.{List, [], _∷_}
 use native.Mathlib.Omega.{arith}
 use lib.Seq.{take-at}
-use borrow.Author.Tests.{ne-eqb}
+use borrow.Author.Tests.{eqb-true, ne-eqb}
+use Rattle.lists.specs.Lists.{pick, over}
+use Rattle.refusals.specs.Refusals.{Told, refusal}
+use Rattle.refusals.specs.Table.{Gives}
+use Rattle.refusals.proofs.Refusals.{refusal-numbered, refusal-determined}
+use Rattle.refusals.proofs.Tests.{decides-less, decides-either}
+use Rattle.refusals.proofs.Tables.{gives-then, gives-passed, gives-whole, gives-way}
 use Rattle.outline.specs.Outline.{size, price, isTaxon}
-use Rattle.outline.specs.Refusals.{Told, refusal}
-use Rattle.outline.proofs.Refusals.{refusal-numbered}
+use Rattle.outline.proofs.Tables.{sizes-give, records-give}
 use Rattle.diversity.specs.Diversity.{chosen}
 use Rattle.diversity.specs.Search.{optimum, bestDiversity, leastCost}
+use Rattle.diversity.specs.Paths.{SubtreeLength, Ends}
 use Rattle.laws.proofs.Optimum.{search-ends, optimum-set, optimum-fits, others-behind, greatest-diversity, least-cost}
 use Rattle.laws.proofs.Spare.{spare-left}
+use Rattle.laws.proofs.Subtrees.{diversity-subtree}
 use Rattle.laws.proofs.Free.{free-chosen}
-use Rattle.choice.specs.Answer.{Call, Reply, Answered, refused, told, judged, isSelected, bestSet, selected, reply, curveOf}
-use Rattle.choice.specs.Answer.{diversityAt, costAt, over, marksAfter, curveAfter, workAfter}
-use Rattle.choice.specs.Demands.{SelectedOrRefused, is-selection, is-refusal, markedSet, TrueOfMarks}
-use Rattle.choice.specs.Demands.{TrueColumn, FoundBySearch}
+use Rattle.choice.specs.Answer.{Call, Reply, Answered, toldOf, othersOf, refused, told, mostCount, tooShort, judged, isSelected}
+use Rattle.choice.specs.Answer.{bestSet, selected, reply, curveOf, diversityAt, costAt, marksAfter, curveAfter, workAfter}
+use Rattle.choice.specs.Demands.{chooseTable, SelectedOrRefused, markedSet, TrueOfMarks, TrueColumn, FoundBySearch}
 use Rattle.choice.specs.declared.answer.Answer.{Answer}
-use Rattle.choice.proofs.Answers.{way-known, told-selection, selection-told}
-use Rattle.choice.proofs.FirstRow.{refuses-one, First, no-row, one-row, judged-first}
+use Rattle.choice.proofs.Answers.{way-known, selected-solvable, told-selection, selection-told}
 use Rattle.choice.proofs.Solving.{curve-diversity, curve-cost}
 
--- the same numbers, of a refusal and of a row
-told-alike : (t u : Told) → refused t ≡ refused u → t ≡ u
-told-alike t u e =
-    let n : t .number ≡ u .number = ap (λ (r : Reply). r .number) e in
-    let p : t .place ≡ u .place = ap (λ (r : Reply). r .place) e in
-    rw (n, p)
+-- ---- what the numbers say of the answer itself
+-- a selection tells 0, and its numbers are the answer's; a refusal tells its own number and place
+pub told-determined : (a b : Answer) → told a ≡ told b → a ≡ b
+told-determined (Answer.Selected d k t s) (Answer.Selected e l u v) h =
+    let x : d ≡ e = ap (λ (r : Reply). r .diversity) h in
+    let y : k ≡ l = ap (λ (r : Reply). r .cost) h in
+    let z : t ≡ u = ap (λ (r : Reply). r .taxa) h in
+    let w : s ≡ v = ap (λ (r : Reply). r .spare) h in
+    rw (x, y, z, w)
+told-determined (Answer.Selected d k t s) (Answer.Refused e) h =
+    let z : 0 ≡ refusal e .number = ap (λ (r : Reply). r .number) h in
+    absurd (omega (arith, refusal-numbered e))
+told-determined (Answer.Refused d) (Answer.Selected e l u v) h =
+    let z : refusal d .number ≡ 0 = ap (λ (r : Reply). r .number) h in
+    absurd (omega (arith, refusal-numbered d))
+told-determined (Answer.Refused d) (Answer.Refused e) h =
+    ap Answer.Refused (refusal-determined d e (ap toldOf h))
 
--- a selection's four numbers, one by one
-selection-answered : (c : Call) (d k t s : ℕ) → told (Answer.Selected d k t s) ≡ reply c → isSelected c ≡ true
-    → Answer.Selected d k t s ≡ Answer.Selected (selected c .diversity) (selected c .cost) (selected c .taxa) (selected c .spare)
-selection-answered c d k t s x e =
-    let r = x ∙ selection-told c e in
-    let a : d ≡ selected c .diversity = ap (λ (r : Reply). r .diversity) r in
-    let b : k ≡ selected c .cost = ap (λ (r : Reply). r .cost) r in
-    let n : t ≡ selected c .taxa = ap (λ (r : Reply). r .taxa) r in
-    let l : s ≡ selected c .spare = ap (λ (r : Reply). r .spare) r in
-    rw (a, b, n, l)
+module _ (c : Call) where
+  -- what a call is judged is what its table gives
+  judged-gives : Gives (chooseTable c) (judged c)
+  unfolding judged tooShort
+  judged-gives =
+      gives-then (gives-way (c .way))
+      (gives-then (sizes-give (c .outline))
+      (gives-then (gives-whole 3 (decides-less mostCount (c .count)))
+      (gives-then (records-give (c .outline))
+      (gives-whole 8 (decides-either (decides-less _ _) (decides-either (decides-less _ _) (decides-less _ _)))))))
 
-module _ (c : Call) {a : Answer} {marks curve work : List ℕ} (x : Answered c a marks curve work) where
-  -- demand 1: a selection or exactly one refusal of the table, under its condition only; a refusal changes no byte of a buffer
-  pub demand-1 : SelectedOrRefused c a marks curve work
-  unfolding reply selected marksAfter curveAfter workAfter
-  demand-1 = go a x refl (judged-first c)
+  reply-told : toldOf (reply c) ≡ judged c
+  unfolding reply selected
+  reply-told = go (isSelected c) refl
     where
-      go : (a : Answer) → Answered c a marks curve work → {t : Told} → judged c ≡ t → First c t → SelectedOrRefused c a marks curve work
-      go (Answer.Selected d k t s) x e (no-row f) =
-          is-selection (record { no-row = f; answered = selection-answered c d k t s (x .told-reply) (rw e) })
-      go (Answer.Refused h) x e (no-row f) =
-          let z : refusal h .number ≡ 0 = ap (λ (r : Reply). r .number) (rw e at (x .told-reply)) in
-          absurd (omega (arith, refusal-numbered h))
-      go (Answer.Selected d k t s) x e (one-row {n} {p} l r) =
-          let number : isSelected c ≡ false = rw e (ne-eqb n 0 (λ z. omega arith)) in
-          let same : told (Answer.Selected d k t s) ≡ refused (record { number = n; place = p }) = x .told-reply ∙ rw (number, e) in
-          let z : 0 ≡ n = ap (λ (r : Reply). r .number) same in
-          absurd (omega arith)
-      go (Answer.Refused h) x e (one-row {n} {p} l r) =
-          let number : isSelected c ≡ false = rw e (ne-eqb n 0 (λ z. omega arith)) in
-          let same : refused (refusal h) ≡ refused (record { number = n; place = p }) = x .told-reply ∙ rw (number, e) in
-          is-refusal n p (record {
-            refuses = r;
-            only = λ m q. refuses-one c r;
-            answered = (h, refl, told-alike (refusal h) (record { number = n; place = p }) same);
-            numbers = same;
-            marks-kept = x .marks-written ∙ rw number;
-            curve-kept = x .curve-written ∙ rw number;
-            work-kept = x .work-cleared ∙ rw number;
-          })
+      go : (b : Bool) → isSelected c ≡ b → toldOf (pick b (selected c) (refused (judged c))) ≡ judged c
+      go true e = sym (gives-passed judged-gives (eqb-true _ _ e))
+      go false e = refl
+
+  refused-others : 1 ≤ judged c .number → othersOf (reply c) ≡ 0 ∷ 0 ∷ 0 ∷ 0 ∷ []
+  unfolding reply
+  refused-others h = rw (ne-eqb (judged c .number) 0 (λ z. omega arith))
+
+module _ (c : Call) {r : Reply} {marks curve work : List ℕ} (x : Answered c r marks curve work) where
+  -- demand 1: a selection or exactly one refusal of the table, under its condition only; a refusal changes no byte of a buffer
+  pub demand-1 : SelectedOrRefused c r marks curve work
+  unfolding marksAfter curveAfter workAfter
+  demand-1 =
+      let is-told : toldOf r ≡ judged c = ap toldOf (x .told-reply) ∙ reply-told c in
+      let number : r .number ≡ judged c .number = ap (λ (t : Told). t .number) is-told in
+      record {
+        given = rw is-told (judged-gives c);
+        others-zero = λ h. ap othersOf (x .told-reply) ∙ refused-others c (omega arith);
+        unchanged = λ h.
+            let off : isSelected c ≡ false = ne-eqb (judged c .number) 0 (λ z. omega arith) in
+            rw (x .marks-written, x .curve-written, x .work-cleared, off);
+      }
 
   -- where the number told is 0, it is a selection
-  module _ (z : told a .number ≡ 0) where
+  module _ (z : r .number ≡ 0) where
     picked : isSelected c ≡ true
     picked = told-selection c (sym (ap (λ (r : Reply). r .number) (x .told-reply)) ∙ z)
 
-    told-is : told a ≡ selected c
+    told-is : r ≡ selected c
     told-is = x .told-reply ∙ selection-told c picked
 
     marked-is : markedSet c marks ≡ bestSet c
@@ -88,7 +101,7 @@ module _ (c : Call) {a : Answer} {marks curve work : List ℕ} (x : Answered c a
     curve-is = x .curve-written ∙ rw picked
 
     -- demand 2: the numbers told are those of the marked set
-    pub demand-2 : TrueOfMarks c (told a) marks
+    pub demand-2 : TrueOfMarks c r marks
     unfolding selected
     demand-2 = record {
       way-known = way-known c picked;
@@ -96,6 +109,10 @@ module _ (c : Call) {a : Answer} {marks curve work : List ℕ} (x : Answered c a
       cost-true = rw (told-is, marked-is);
       taxa-true = rw (told-is, marked-is);
     }
+
+    -- and in the paper's words: the length of the smallest subtree that connects the marked taxa, rooted with the root
+    pub demand-2-subtree : SubtreeLength (c .outline) (Ends (c .outline) (c .way) (markedSet c marks)) (r .diversity)
+    demand-2-subtree = rw (demand-2 .diversity-true) (diversity-subtree _ (selected-solvable c picked .kept .linked) _ _)
 
     shown-diversity : (b : ℕ) → b ≤ c .count → diversityAt curve b ≡ bestDiversity (c .outline) (c .way) b
     shown-diversity b h = rw curve-is (curve-diversity c (c .curve) b h)
@@ -117,7 +134,7 @@ module _ (c : Call) {a : Answer} {marks curve work : List ℕ} (x : Answered c a
         }
 
     -- demand 3: exactly what the exhaustive search finds
-    pub demand-3 : FoundBySearch c (told a) marks curve
+    pub demand-3 : FoundBySearch c r marks curve
     unfolding selected bestDiversity leastCost
     demand-3 =
         let o = c .outline in
@@ -134,7 +151,7 @@ module _ (c : Call) {a : Answer} {marks curve work : List ℕ} (x : Answered c a
         }
 
     -- the spare is the page count minus the cost
-    pub spare-is-left : told a .spare ≡ c .count - told a .cost
+    pub spare-is-left : r .spare ≡ c .count - r .cost
     unfolding selected leastCost
     spare-is-left = rw told-is (spare-left (c .outline) (c .way) (c .count))
 

@@ -6,13 +6,12 @@ use mathlib.Core.List.{List}
 use native.Mathlib.Omega.{arith}
 use native.Mathlib.Nat.{mul-comm, div-div-eq-div-mul, div-one}
 use lib.ListN.{length, getD, set, length-map}
-use Rattle.outline.specs.Lists.{pick, from}
+use Rattle.lists.specs.Lists.{pick, from, over}
+use Rattle.lists.proofs.Buffers.{Falling, falling-starts, falling-goes, falling-ends}
 use Rattle.outline.specs.Outline.{size, records, isTaxon}
 use Rattle.laws.specs.Numbers.{weight, decode}
 use Rattle.laws.proofs.Marks.{from-length, map-at}
 use Rattle.laws.proofs.Weights.{weight-last, weight-before}
-use Rattle.choice.specs.Answer.{over}
-use Rattle.choice.proofs.Buffers.{Falling, falling-starts, falling-goes, falling-ends}
 
 module _ (o : List ℕ) (code : ℕ) where
   pub decode-long : length (decode o code) ≡ size o

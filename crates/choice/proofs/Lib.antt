@@ -1,8 +1,6 @@
 -- Laws that belong to no one function.
 pub mod Answers
-pub mod Buffers
 pub mod Columns
 pub mod Demands
 pub mod Digits
-pub mod FirstRow
 pub mod Solving

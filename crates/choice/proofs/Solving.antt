@@ -7,7 +7,8 @@ use native.Mathlib.Omega.{arith}
 use native.Mathlib.Nat.{mul-le-mul-right}
 use lib.Dec.{eqb}
 use lib.ListN.{length, replicate}
-use Rattle.outline.specs.Lists.{pick, one, from}
+use Rattle.lists.specs.Lists.{pick, one, from, over}
+use Rattle.lists.proofs.Buffers.{over-at}
 use Rattle.outline.specs.Outline.{size, records, branch}
 use Rattle.outline.specs.Refusals.{mostRecords}
 use Rattle.outline.proofs.Kept.{Kept}
@@ -22,10 +23,9 @@ use Rattle.laws.proofs.Numbers.{decode-code}
 use Rattle.table.specs.Cells.{unit, seen, view, diversityOf, costOf, codeOf, cell}
 use Rattle.table.specs.Table.{Filled}
 use Rattle.table.specs.declared.candidate.Candidate.{Candidate}
-use Rattle.choice.specs.Answer.{Call, Reply, bestSet, selected, columns, curveOf, diversityAt, costAt, over}
+use Rattle.choice.specs.Answer.{Call, Reply, bestSet, selected, columns, curveOf, diversityAt, costAt}
 use Rattle.choice.specs.Inner.{topDiversity, topCost, Drawable, Solvable, Solved}
 use Rattle.choice.specs.declared.answer.Answer.{Answer}
-use Rattle.choice.proofs.Buffers.{over-at}
 use Rattle.choice.proofs.Columns.{columns-long, column-diversity, column-cost}
 
 -- ---- how large the numbers are
@@ -127,7 +127,7 @@ module _ (c : Call) (s : Solvable c) (table : List ℕ) (filled : Filled (c .out
     inside =
         let rows : 3 ≤ size (c .outline) + 2 = omega (arith, s .kept .linked .filled) in
         omega (arith, s .work-long, mul-le-mul-right (c .count + 1) rows);
-    room = s .curve-long;
+    curve-long = s .curve-long;
     diversity-fits = λ b h.
         omega (arith, top-column b (omega arith), diversity-most (c .outline) (s .kept) (c .way) (optimum (c .outline) (c .way) b));
     cost-fits = λ b h. omega (arith, top-column b (omega arith), optimum-fits (c .outline) (c .way) b, s .low);

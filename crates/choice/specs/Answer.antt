@@ -2,12 +2,13 @@
 use Prim.Native.Nat.{ℕ, _+_, _*_}
 use mathlib.Core.Path.{_≡_}
 use mathlib.Core.Bool.{Bool, _||_, _&&_, not}
-use mathlib.Core.List.{List, [], _∷_, _++_}
-use lib.ListN.{length, getD, drop, replicate}
+use mathlib.Core.List.{List, [], _∷_}
+use lib.ListN.{length, getD, replicate}
 use lib.Dec.{eqb, ltb}
-use Rattle.outline.specs.Lists.{pick, from}
+use Rattle.lists.specs.Lists.{pick, from}
+use Rattle.refusals.specs.Refusals.{Told, tells, refusal, row, _▸_, after}
 use Rattle.outline.specs.Outline.{size}
-use Rattle.outline.specs.Refusals.{Told, refusal, row, _▸_, sizeRows, recordRows}
+use Rattle.outline.specs.Refusals.{sizeRows, recordRows}
 use Rattle.diversity.specs.Diversity.{diversity, cost, chosenTaxa}
 use Rattle.diversity.specs.Search.{optimum, bestDiversity, leastCost, spare}
 use Rattle.choice.specs.declared.answer.Answer.{Answer}
@@ -33,6 +34,13 @@ pub record Reply : Type 0 where
   pub cost : ℕ
   pub taxa : ℕ
   pub spare : ℕ
+
+-- its number and place, and the others
+abbrev pub toldOf : Reply → Told
+toldOf r = tells (r .number) (r .place)
+
+abbrev pub othersOf : Reply → List ℕ
+othersOf r = r .diversity ∷ r .cost ∷ r .taxa ∷ r .spare ∷ []
 
 -- a refusal: diversity, cost, number of taxa and spare are then 0
 abbrev pub refused : Told → Reply
@@ -111,26 +119,19 @@ diversityAt curve b = getD curve (2 * b) 0
 abbrev pub costAt : List ℕ → ℕ → ℕ
 costAt curve b = getD curve (2 * b + 1) 0
 
--- a text written at the beginning of a buffer; the rest of the buffer is unchanged
-unfoldable pub over : List ℕ → List ℕ → List ℕ
-over text buffer = text ++ drop (length text) buffer
-
--- a buffer after a call: written over on a selection, unchanged on a refusal
-abbrev pub after : Call → List ℕ → List ℕ → List ℕ
-after c text buffer = pick (isSelected c) (over text buffer) buffer
-
+-- the buffers after a call
 unfoldable pub marksAfter : Call → List ℕ
-marksAfter c = after c (bestSet c) (c .marks)
+marksAfter c = after (judged c) (bestSet c) (c .marks)
 
 unfoldable pub curveAfter : Call → List ℕ
-curveAfter c = after c (curveOf c) (c .curve)
+curveAfter c = after (judged c) (curveOf c) (c .curve)
 
 unfoldable pub workAfter : Call → List ℕ
-workAfter c = after c (replicate (workTaken (c .outline) (c .count)) 0) (c .work)
+workAfter c = after (judged c) (replicate (workTaken (c .outline) (c .count)) 0) (c .work)
 
--- what a call ensures: the answer, and the buffers as it leaves them
-pub record Answered (c : Call) (answer : Answer) (marks curve work : List ℕ) : Type 0 where
-  pub told-reply : told answer ≡ reply c
+-- what a call ensures, of the numbers that it is told and of the buffers as it leaves them
+pub record Answered (c : Call) (r : Reply) (marks curve work : List ℕ) : Type 0 where
+  pub told-reply : r ≡ reply c
   pub marks-written : marks ≡ marksAfter c
   pub curve-written : curve ≡ curveAfter c
   pub work-cleared : work ≡ workAfter c

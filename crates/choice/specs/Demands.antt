@@ -1,65 +1,37 @@
--- The words of the mission's three demands, for a call, what is returned and what is left in the buffers.
-use Prim.Native.Nat.{ℕ, _%_, _≤_, _<_}
+-- The words of the mission's three demands, for a call, the numbers that it is told and what is left in the buffers.
+use Prim.Native.Nat.{ℕ, _≤_, _<_}
 use mathlib.Core.Path.{_≡_}
 use mathlib.Core.Logic.{_⊎_, _≢_}
-use mathlib.Core.Bool.{Bool, true, false}
-use mathlib.Core.List.{List}
+use mathlib.Core.List.{List, [], _∷_, _++_}
 use lib.ListN.{length, take}
+use Rattle.refusals.specs.Table.{Row, whole, Decided}
 use Rattle.outline.specs.Outline.{size}
-use Rattle.outline.specs.Refusals.{badField, badLink, taxa, isDuplicate, refusal, mostRecords, mostTaxa}
-use Rattle.outline.specs.declared.verdict.Refusal.{Refusal}
+use Rattle.outline.specs.Table.{sizeTable, recordTable}
 use Rattle.diversity.specs.Diversity.{diversity, cost, chosenTaxa}
 use Rattle.diversity.specs.Behind.{IsSet, Fits, Behind}
 use Rattle.diversity.specs.Search.{holding, exhaustiveSearch, bestDiversity, leastCost}
-use Rattle.choice.specs.Answer.{Call, Reply, refused, told, mostCount, marksTaken, curveTaken, workTaken, selected, diversityAt, costAt}
-use Rattle.choice.specs.declared.answer.Answer.{Answer}
+use Rattle.choice.specs.Answer.{Call, Reply, toldOf, othersOf, mostCount, marksTaken, curveTaken, workTaken, diversityAt, costAt}
 
--- record r is the lowest at which a condition holds
-pub record LowestAt (o : List ℕ) (holds : ℕ → Bool) (r : ℕ) : Type 0 where
-  pub low : 1 ≤ r
-  pub high : r ≤ size o
-  pub here : holds r ≡ true
-  pub before : (q : ℕ) → 1 ≤ q → q < r → holds q ≡ false
+-- refusal 9: marks, curve or work shorter than what a call takes
+abbrev pub TooShort : Call → Type 0
+TooShort c =
+    (length (c .marks) < marksTaken (c .outline))
+    ⊎ ((length (c .curve) < curveTaken (c .count)) ⊎ (length (c .work) < workTaken (c .outline) (c .count)))
 
--- a row of document 01's table holds for a call, by its number and its place; beside it the table's word for it
-pub data Row (c : Call) : ℕ → ℕ → Type 0 where
-  unknown-way : c .way ≢ 0 → c .way ≢ 1 → Row c 1 0  -- way
-  partial-record : (length (c .outline) ≡ 0) ⊎ (length (c .outline) % 16 ≢ 0) → Row c 2 0  -- ragged
-  too-many-records : mostRecords < size (c .outline) → Row c 3 0  -- thick
-  count-too-large : mostCount < c .count → Row c 4 0  -- count
-  field-out-of-range : {r : ℕ} → LowestAt (c .outline) (badField (c .outline)) r → Row c 5 r  -- field
-  bad-link : {r : ℕ} → LowestAt (c .outline) (badLink (c .outline)) r → Row c 6 r  -- link
-  too-many-taxa : mostTaxa < taxa (c .outline) → Row c 7 0  -- crowd
-  duplicate-plate : {r : ℕ} → LowestAt (c .outline) (isDuplicate (c .outline)) r → Row c 8 r  -- twin
-  -- space
-  buffer-too-short : (length (c .marks) < marksTaken (c .outline)) ⊎ (length (c .curve) < curveTaken (c .count))
-      ⊎ (length (c .work) < workTaken (c .outline) (c .count)) → Row c 9 0
+-- document 01's table for a call, judged from 1 to 9; beside each row the table's word for it
+abbrev pub chooseTable : Call → List Row
+chooseTable c =
+    (whole 1 ((c .way ≢ 0) × (c .way ≢ 1)) ∷ [])  -- way
+    ++ sizeTable (c .outline)  -- ragged, thick
+    ++ (whole 4 (mostCount < c .count) ∷ [])  -- count
+    ++ recordTable (c .outline)  -- field, link, crowd, twin
+    ++ (whole 9 (TooShort c) ∷ [])  -- space
 
--- a call is refused with row n and place p: that row holds, and none before it
-pub record Refuses (c : Call) (n p : ℕ) : Type 0 where
-  pub holds : Row c n p
-  pub first : (m q : ℕ) → m < n → Row c m q → ⊥
-
--- demand 1, a refusal: there is one row and place to refuse the call with, the answer is the refusal with these two numbers,
--- the four others are 0, and no byte of a buffer is changed
-pub record RefusedBy (c : Call) (a : Answer) (marks curve work : List ℕ) (n p : ℕ) : Type 0 where
-  pub refuses : Refuses c n p
-  pub only : (m q : ℕ) → Refuses c m q → (m ≡ n) × (q ≡ p)
-  pub answered : (e : Refusal) × (a ≡ Answer.Refused e) × (refusal e ≡ record { number = n; place = p })
-  pub numbers : told a ≡ refused (record { number = n; place = p })
-  pub marks-kept : marks ≡ c .marks
-  pub curve-kept : curve ≡ c .curve
-  pub work-kept : work ≡ c .work
-
--- demand 1, a selection: no row holds, and the answer is the selection
-pub record SelectedFor (c : Call) (a : Answer) : Type 0 where
-  pub no-row : (n p : ℕ) → Row c n p → ⊥
-  pub answered : a ≡ Answer.Selected (selected c .diversity) (selected c .cost) (selected c .taxa) (selected c .spare)
-
--- demand 1: a selection, and no row holds; or exactly one refusal of the table
-pub data SelectedOrRefused (c : Call) (a : Answer) (marks curve work : List ℕ) : Type 0 where
-  is-selection : SelectedFor c a → SelectedOrRefused c a marks curve work
-  is-refusal : (n p : ℕ) → RefusedBy c a marks curve work n p → SelectedOrRefused c a marks curve work
+-- demand 1: a selection, and no row of the table holds; or exactly one refusal of the table, under its condition only, and then
+-- the four other numbers are 0, and no byte of a buffer is changed
+abbrev pub SelectedOrRefused : Call → Reply → List ℕ → List ℕ → List ℕ → Type 1
+SelectedOrRefused c r marks curve work =
+    Decided (chooseTable c) (toldOf r) (othersOf r) (c .marks ∷ c .curve ∷ c .work ∷ []) (marks ∷ curve ∷ work ∷ [])
 
 -- the set that is marked
 abbrev pub markedSet : Call → List ℕ → List ℕ

@@ -3,11 +3,12 @@ use Prim.Native.Nat.{ℕ, _+_, _*_, _^_, _<_, _≤_}
 use mathlib.Core.Path.{_≡_}
 use mathlib.Core.List.{List}
 use lib.ListN.{length, replicate}
+use Rattle.lists.specs.Lists.{over}
 use Rattle.outline.specs.Outline.{size}
 use Rattle.outline.specs.Refusals.{mostRecords}
 use Rattle.outline.proofs.Kept.{Kept}
 use Rattle.table.specs.Cells.{cell, diversityOf, costOf}
-use Rattle.choice.specs.Answer.{Call, told, mostCount, marksTaken, curveTaken, workTaken, bestSet, selected, curveOf, over}
+use Rattle.choice.specs.Answer.{Call, told, mostCount, marksTaken, curveTaken, workTaken, bestSet, selected, curveOf}
 use Rattle.choice.specs.declared.answer.Answer.{Answer}
 
 -- an outline and a page count that are not too large
@@ -25,7 +26,7 @@ topCost work width b = costOf (cell work (2 * width + b))
 -- a table whose top row is to be written as a curve: each number keeps to its 32 bits, and the curve is long enough
 pub record Drawable (work : List ℕ) (width : ℕ) (curve : List ℕ) : Type 0 where
   pub inside : 2 * (3 * width) ≤ length work
-  pub room : 2 * width ≤ length curve
+  pub curve-long : 2 * width ≤ length curve
   pub diversity-fits : (b : ℕ) → b < width → topDiversity work width b < 2 ^ 32
   pub cost-fits : (b : ℕ) → b < width → topCost work width b < 2 ^ 32
 

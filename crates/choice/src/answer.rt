@@ -1,5 +1,5 @@
 // What choosing answers.
-use outline::verdict::Refusal;
+use refusals::verdict::Refusal;
 
 pub enum Answer {
     Selected {

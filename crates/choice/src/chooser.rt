@@ -1,7 +1,7 @@
 // Choosing: the call is judged, the table filled and read out, and work cleared.
 ghost use mathlib.Core.Path.{_≡_};
 ghost use lib.ListN.{length, replicate};
-ghost use Rattle.choice.specs.Answer.{call, Answered};
+ghost use Rattle.choice.specs.Answer.{call, told, Answered};
 ghost use Rattle.choice.specs.Inner.{Solvable, Solved};
 use super::answer::Answer;
 use super::curve::spare_of;
@@ -10,7 +10,7 @@ use super::judge::judge;
 use super::judge::work_taken;
 use super::marks::marked;
 use super::marks::write_marks;
-use outline::verdict::Verdict;
+use refusals::verdict::Verdict;
 use table::best_at;
 use table::fill;
 
@@ -66,7 +66,7 @@ pub fn choose(
 ) -> Answer
     ensures { λ a. ⌜ Answered
         (call (now (outline .entry)) count way (now (marks .entry)) (now (curve .entry)) (now (work .entry)))
-        a (now (marks .exit)) (now (curve .exit)) (now (work .exit)) ⌝ }
+        (told a) (now (marks .exit)) (now (curve .exit)) (now (work .exit)) ⌝ }
 {
     match judge(outline, count, way, marks, curve, work) {
         Verdict::Refused(refusal) => Answer::Refused(refusal),

@@ -2,9 +2,9 @@
 ghost use mathlib.Core.Path.{_≡_};
 ghost use Prim.Native.Nat.{_*_, _<_};
 ghost use lib.ListN.{length};
-ghost use Rattle.outline.specs.Lists.{from};
+ghost use Rattle.lists.specs.Lists.{from, over};
 ghost use Rattle.diversity.specs.Search.{columnsAlike};
-ghost use Rattle.choice.specs.Answer.{columns, diversityAt, over};
+ghost use Rattle.choice.specs.Answer.{columns, diversityAt};
 ghost use Rattle.choice.specs.Inner.{topDiversity, topCost, Drawable};
 use table::best_at;
 

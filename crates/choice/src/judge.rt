@@ -1,12 +1,12 @@
 // The table of refusals, whole: rows 1 to 9 in their order.
 ghost use mathlib.Core.Path.{_≡_};
-ghost use Rattle.outline.specs.Refusals.{told};
+ghost use Rattle.refusals.specs.Refusals.{told};
 ghost use Rattle.choice.specs.Answer.{call, workTaken, judged};
 ghost use Rattle.choice.specs.Inner.{Small};
-use outline::verdict::Refusal;
-use outline::verdict::Verdict;
-use outline::verdict::check_records;
-use outline::verdict::check_size;
+use outline::checker::check_records;
+use outline::checker::check_size;
+use refusals::verdict::Refusal;
+use refusals::verdict::Verdict;
 
 pub const MOST_COUNT: u32 = 4096;
 

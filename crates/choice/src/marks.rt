@@ -2,11 +2,11 @@
 ghost use mathlib.Core.Path.{_≡_};
 ghost use Prim.Native.Nat.{_≤_};
 ghost use lib.ListN.{length};
+ghost use Rattle.lists.specs.Lists.{over};
 ghost use Rattle.outline.specs.Outline.{size};
 ghost use Rattle.outline.specs.Refusals.{mostRecords};
 ghost use Rattle.diversity.specs.Diversity.{chosenTaxa};
 ghost use Rattle.laws.specs.Numbers.{decode};
-ghost use Rattle.choice.specs.Answer.{over};
 use outline::fields::is_taxon;
 
 // Writes the marks of a set, which is a binary number, the last taxon the least significant digit.

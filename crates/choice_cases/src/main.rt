@@ -4,7 +4,7 @@
 // then the marks, record by record; each column of the curve that is unlike the one before it, with its diversity and cost;
 // and how many numbers of work, from the first on, are 0.
 mod limits;
-mod refusals;
+mod refused;
 mod show;
 mod starred;
 
@@ -18,9 +18,9 @@ fn main() {
     limits::prices();
     limits::records();
     limits::sizes();
-    refusals::ways();
-    refusals::rules();
-    refusals::space();
-    refusals::order_by_call();
-    refusals::order_by_outline();
+    refused::ways();
+    refused::rules();
+    refused::buffers_too_short();
+    refused::order_by_call();
+    refused::order_by_outline();
 }

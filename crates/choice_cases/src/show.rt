@@ -3,7 +3,7 @@ ghost use Prim.Native.Nat.{_+_, _*_, _<_, _≤_};
 ghost use lib.ListN.{length};
 use choice::Answer;
 use choice::choose;
-use outline::verdict::Refusal;
+use refusals::verdict::Refusal;
 use samples::outlines::Buffer;
 use samples::outlines::first_bytes;
 use samples::words::say;

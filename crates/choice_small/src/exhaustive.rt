@@ -41,17 +41,17 @@ fn has_first(x: u32, y: u32) -> bool {
     false
 }
 
-// Whether set x is better than y: more diversity, then fewer quarters, then the lowest-numbered taxon on which they differ.
+// Whether set x is better than y: more diversity, then less cost, then the lowest-numbered taxon on which they differ.
 fn is_better(diversities: &Worth, costs: &Worth, x: u32, y: u32) -> bool {
     let diversity = worth_at(diversities, x);
-    let other = worth_at(diversities, y);
-    if diversity != other {
-        return other < diversity;
+    let other_diversity = worth_at(diversities, y);
+    if diversity != other_diversity {
+        return other_diversity < diversity;
     }
-    let quarters = worth_at(costs, x);
-    let others = worth_at(costs, y);
-    if quarters != others {
-        return quarters < others;
+    let cost = worth_at(costs, x);
+    let other_cost = worth_at(costs, y);
+    if cost != other_cost {
+        return cost < other_cost;
     }
     has_first(x, y)
 }

@@ -83,7 +83,7 @@ pub fn tied() -> Tally {
         .plus(groups)
 }
 
-// Headings one within the other, each of a single member; beside them a taxon.
+// Groups one within the other, each of a single member; beside them a taxon.
 fn single_members() -> Buffer {
     let mut o = one_record([0, 2, 1, 0, 0]);
     put(&mut o, 2, [6, 3, 2, 0, 0]);

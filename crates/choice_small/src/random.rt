@@ -23,9 +23,9 @@ fn draw(seed: &mut u64, most: usize) -> usize
     0
 }
 
-// An earlier record for record q to stand under. Once there are 6 taxa it is one that has no members: it is no taxon from
+// An earlier record for record q to be a member of. Once there are 6 taxa it is one that has no members: it is no taxon from
 // then on, and q is one.
-fn heading(seed: &mut u64, first: &[u32; 12], taxa: u32, q: usize) -> usize
+fn draw_parent(seed: &mut u64, first: &[u32; 12], taxa: u32, q: usize) -> usize
     requires { ⌜ (2 ≤ q) × (q < 12) ⌝ }
     ensures { λ p. ⌜ (1 ≤ p) × (p < q) ⌝ }
 {
@@ -38,14 +38,14 @@ fn heading(seed: &mut u64, first: &[u32; 12], taxa: u32, q: usize) -> usize
     p
 }
 
-// Writes the links of n records. A record is the last member of its heading so far.
+// Writes the links of n records. A record is the last member of its group so far.
 fn link(seed: &mut u64, n: usize, next: &mut [u32; 12], first: &mut [u32; 12]) {
     let mut last = [0; 12];
     let mut taxa = 1;
     let mut q = 2;
     while q < 12 {
         if q <= n {
-            let p = heading(seed, first, taxa, q);
+            let p = draw_parent(seed, first, taxa, q);
             let before = last[p];
             if before == 0 {
                 first[p] = q as u32;

@@ -5,7 +5,7 @@ use mathlib.Core.Bool.{Bool, _&&_, not}
 use mathlib.Core.List.{List, [], _∷_, _++_}
 use lib.ListN.{getD}
 use lib.Dec.{eqb}
-use Rattle.outline.specs.Lists.{pick, one, anywhere, total}
+use Rattle.lists.specs.Lists.{pick, one, anywhere, total}
 use Rattle.outline.specs.Outline.{size, records, next, first, branch, price}
 
 -- the records of the chain that begins at r, and all below them; depth bounds how far to look

@@ -1,5 +1,6 @@
 -- What the best choice is: the definitions that a reader has to believe, and the starred cases.
 pub mod Behind
 pub mod Diversity
+pub mod Paths
 pub mod Search
 pub mod Starred

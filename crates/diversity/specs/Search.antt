@@ -4,7 +4,7 @@ use Prim.Native.Nat.{ℕ, zero, suc}
 use mathlib.Core.Bool.{Bool, false, _||_, _&&_}
 use mathlib.Core.List.{List, [], _∷_, _++_, map, foldl}
 use lib.Dec.{eqb, ltb, leb}
-use Rattle.outline.specs.Lists.{pick}
+use Rattle.lists.specs.Lists.{pick}
 use Rattle.outline.specs.Outline.{records, isTaxon}
 use Rattle.diversity.specs.Diversity.{diversity, cost}
 

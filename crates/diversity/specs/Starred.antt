@@ -2,9 +2,10 @@
 use Prim.Native.Nat.{ℕ, zero, suc, _/_, _%_}
 use mathlib.Core.Path.{_≡_, refl}
 use mathlib.Core.List.{List, [], _∷_, _++_, map}
-use Rattle.outline.specs.Lists.{from, anywhere, total, lowest}
+use Rattle.lists.specs.Lists.{from, anywhere, total, lowest}
+use Rattle.refusals.specs.Refusals.{Told, passed}
 use Rattle.outline.specs.Outline.{short, long, records}
-use Rattle.outline.specs.Refusals.{badField, naming, named, badLink, taxaIn, taxa, hasPlate, isDuplicate, Told, passed, sizeRows, recordRows, checked}
+use Rattle.outline.specs.Refusals.{badField, naming, named, badLink, taxaIn, taxa, hasPlate, isDuplicate, sizeRows, recordRows, checked}
 use Rattle.diversity.specs.Diversity.{chain, clade, chosen, within, elsewhere, rooted, unrooted, diversity, cost, chosenTaxa}
 use Rattle.diversity.specs.Search.{subsets, leads, better, turn, exhaustiveSearch, setOf, optimum, bestDiversity, leastCost}
 use Rattle.diversity.specs.Search.{columnsAlike, spare}

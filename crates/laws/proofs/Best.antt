@@ -6,7 +6,7 @@ use mathlib.Core.Bool.{Bool, true, false}
 use native.Mathlib.Omega.{arith}
 use lib.Dec.{leb}
 use borrow.Author.Tests.{leb-true, leb-false}
-use Rattle.outline.specs.Lists.{pick}
+use Rattle.lists.specs.Lists.{pick}
 use Rattle.laws.specs.Candidate.{Value, nothingWorth, beats, Cand, none, some, betterOf, oneAt}
 use Rattle.laws.proofs.Order.{AtLeast, atleast-trans, atleast-antisym, Decided, beats-decides}
 

@@ -7,7 +7,7 @@ use native.Mathlib.Omega.{arith}
 use native.Mathlib.Nat.{mul-add, mul-zero}
 use lib.Dec.{eqb}
 use borrow.Author.Tests.{eq-eqb}
-use Rattle.outline.specs.Lists.{pick, one, anywhere, total}
+use Rattle.lists.specs.Lists.{pick, one, anywhere, total}
 use Rattle.outline.specs.Outline.{size, first, branch, price, records, isTaxon}
 use Rattle.outline.proofs.Kept.{Linked}
 use Rattle.diversity.specs.Diversity.{clade, chosen, within, elsewhere, rooted, unrooted, cost}
@@ -26,9 +26,13 @@ total-clade w o r = ap (λ n. w r + n) (ap (total w) (chain-listed (size o) o (f
 abbrev pub chosenBelow : List ℕ → List ℕ → ℕ → ℕ
 chosenBelow o s r = one (chosen s r) + chosenIn (chosen s) (tree o (first o r))
 
+-- the test holds at r or below it
+pub anywhere-clade : (p : ℕ → Bool) (o : List ℕ) (r : ℕ) → anywhere p (clade o r) ≡ positive (one (p r) + chosenIn p (tree o (first o r)))
+anywhere-clade p o r = anywhere-count p (clade o r) ∙ ap positive (total-clade (λ q. one (p q)) o r)
+
 pub within-count : (o s : List ℕ) (r : ℕ) → within o s r ≡ positive (chosenBelow o s r)
 unfolding within
-within-count o s r = anywhere-count (chosen s) (clade o r) ∙ ap positive (total-clade (λ q. one (chosen s q)) o r)
+within-count o s r = anywhere-clade (chosen s) o r
 
 -- a sum over a forest whose records are the outline's, each once, as a sum over all records
 weighed : (o : List ℕ) (w : ℕ → ℕ) (F : Forest) → ((t : ℕ) → countIn t F ≤ occurs t (records o))

@@ -5,7 +5,7 @@ use mathlib.Core.Bool.{Bool, true, false, _&&_}
 use mathlib.Core.List.{List, [], _∷_}
 use native.Mathlib.Omega.{arith}
 use lib.Dec.{eqb}
-use Rattle.outline.specs.Lists.{pick, one, anywhere}
+use Rattle.lists.specs.Lists.{pick, one, anywhere}
 use Rattle.outline.specs.Outline.{size, records, branch}
 use Rattle.outline.proofs.Kept.{Linked}
 use Rattle.diversity.specs.Diversity.{clade, chosen, within, elsewhere, rooted, unrooted, diversity, chosenTaxa}

@@ -6,7 +6,7 @@ use mathlib.Core.List.{List, [], _∷_, _++_}
 use native.Mathlib.Omega.{arith}
 use lib.Dec.{eqb}
 use borrow.Author.Tests.{eqb-true, eqb-false}
-use Rattle.outline.specs.Lists.{pick, one, total}
+use Rattle.lists.specs.Lists.{pick, one, total}
 use Rattle.outline.specs.Outline.{size, next, first, records, isTaxon}
 use Rattle.outline.proofs.Kept.{Linked}
 use Rattle.diversity.specs.Diversity.{chain}

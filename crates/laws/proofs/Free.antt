@@ -9,7 +9,7 @@ use lib.Dec.{eqb}
 use lib.ListN.{getD, set, length-set}
 use lib.Seq.{getD-set-same, getD-set-other}
 use borrow.Author.Tests.{eqb-true, eqb-false, eq-eqb}
-use Rattle.outline.specs.Lists.{pick, anywhere}
+use Rattle.lists.specs.Lists.{pick, anywhere}
 use Rattle.outline.specs.Outline.{size, records, branch, price, isTaxon}
 use Rattle.diversity.specs.Diversity.{clade, chosen, within, elsewhere, rooted, unrooted, diversity, cost}
 use Rattle.diversity.specs.Behind.{MarkAt, IsSet, Behind, less-diversity, more-cost, lacks-first}

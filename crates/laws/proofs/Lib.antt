@@ -10,7 +10,9 @@ pub mod Measures
 pub mod Numbers
 pub mod Optimum
 pub mod Order
+pub mod Paths
 pub mod SetOrder
 pub mod Spare
+pub mod Subtrees
 pub mod Sums
 pub mod Weights

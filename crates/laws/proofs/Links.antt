@@ -4,14 +4,14 @@ use mathlib.Core.Path.{_≡_, refl, sym, ap, _∙_}
 use mathlib.Core.Bool.{Bool, true, false}
 use mathlib.Core.List.{List}
 use native.Mathlib.Omega.{arith}
-use native.Mathlib.Nat.{mul-add, mul-one}
+use native.Mathlib.Nat.{mul-one}
 use lib.Dec.{eqb}
 use borrow.Author.Tests.{eqb-true}
-use Rattle.outline.specs.Lists.{one, from, total}
+use Rattle.lists.specs.Lists.{one, from, total}
 use Rattle.outline.specs.Outline.{size, next, first, records}
 use Rattle.outline.specs.Refusals.{naming, named}
 use Rattle.outline.proofs.Kept.{Later, Linked}
-use Rattle.laws.proofs.Sums.{Term, total-some, total-add, total-scale, total-swap, total-ext, total-single}
+use Rattle.laws.proofs.Sums.{Term, total-some, total-add, total-scale, total-swap, total-ext, total-two}
 
 -- the record whose link names q
 pub data Namer (o : List ℕ) (q : ℕ) : Type 0 where
@@ -35,12 +35,6 @@ namer o linked q l u = found (total-some (naming o q) 1 (size o) (omega (arith, 
             let k = linked .first-later r lr (omega arith) .later (omega arith) in
             by-first r lr (omega arith) n
         go false false d e = absurd (omega (arith, h, ap one d, ap one e))
-
--- the terms at x and at y, picked out of a sum
-total-two : (w : ℕ → ℕ) (x y a n : ℕ) → x < a + n → (x < a → w x ≡ 0) → y < a + n → (y < a → w y ≡ 0)
-    → total (λ q. w q * (one (eqb x q) + one (eqb y q))) (from a n) ≡ w x + w y
-total-two w x y a n hx zx hy zy =
-    simp mul-add (omega (arith, total-add (λ q. w q * one (eqb x q)) (λ q. w q * one (eqb y q)) (from a n), total-single w x a n hx zx, total-single w y a n hy zy))
 
 module _ (o : List ℕ) (linked : Linked o) (G : ℕ → ℕ) (nil : G 0 ≡ 0) where
   -- a link is no record before the second, so there it counts nothing

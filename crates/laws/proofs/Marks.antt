@@ -8,7 +8,7 @@ use mathlib.Core.List.{List·Memᴰ·append-cases, List·Memᴰ·eq-of-singleton
 use native.Mathlib.Omega.{arith}
 use lib.Dec.{eqb}
 use lib.ListN.{length, getD}
-use Rattle.outline.specs.Lists.{pick, from}
+use Rattle.lists.specs.Lists.{pick, from}
 use Rattle.outline.specs.Outline.{size, records, isTaxon}
 use Rattle.diversity.specs.Diversity.{chosen}
 use Rattle.diversity.specs.Behind.{MarkAt, IsSet, Lacks}

@@ -4,7 +4,7 @@ use mathlib.Core.Path.{_≡_, refl, ap}
 use mathlib.Core.Bool.{Bool, true, false, _&&_, and-true, and-false}
 use mathlib.Core.List.{List}
 use native.Mathlib.Omega.{arith}
-use Rattle.outline.specs.Lists.{pick, one}
+use Rattle.lists.specs.Lists.{pick, one}
 use Rattle.outline.specs.Outline.{branch, price}
 use Rattle.laws.specs.Forest.{Forest, empty, node, isGroup, sumIn}
 use Rattle.laws.proofs.Sums.{positive, positive-true}

@@ -10,7 +10,7 @@ use lib.Dec.{eqb, ltb}
 use lib.ListN.{getD}
 use lib.Pow.{high, pow-pos, pow-mono}
 use borrow.Author.Tests.{lt-ltb, le-ltb, ltb-true, ltb-false}
-use Rattle.outline.specs.Lists.{pick, from, total}
+use Rattle.lists.specs.Lists.{pick, from, total}
 use Rattle.outline.specs.Outline.{size, records, isTaxon}
 use Rattle.outline.specs.Refusals.{taxaIn, taxa}
 use Rattle.diversity.specs.Diversity.{chosen}

@@ -9,7 +9,7 @@ use native.Mathlib.Omega.{arith}
 use lib.Dec.{eqb, leb}
 use lib.ListN.{getD}
 use borrow.Author.Tests.{lt-ltb}
-use Rattle.outline.specs.Lists.{pick}
+use Rattle.lists.specs.Lists.{pick}
 use Rattle.outline.specs.Outline.{records, price}
 use Rattle.diversity.specs.Diversity.{chosen, diversity, cost}
 use Rattle.diversity.specs.Behind.{Fits, IsSet, Behind, less-diversity, more-cost, lacks-first}

@@ -1,13 +1,14 @@
 -- Laws of sums over lists of numbers, `total`, `anywhere` and `from`, that speak of no outline.
 use Prim.Native.Nat.{ℕ, zero, suc, _+_, _*_, _≤_, _<_}
 use mathlib.Core.Path.{_≡_, refl, sym, ap, ap₂, fun-ext, _∙_}
-use mathlib.Core.Bool.{Bool, true, false, _||_}
+use mathlib.Core.Logic.{_≢_}
+use mathlib.Core.Bool.{Bool, true, false, _||_, false≢true}
 use mathlib.Core.List.{List, [], _∷_, _++_}
 use native.Mathlib.Omega.{arith}
-use native.Mathlib.Nat.{zero-add}
+use native.Mathlib.Nat.{zero-add, mul-add}
 use lib.Dec.{eqb, ltb}
 use borrow.Author.Tests.{eqb-true, eqb-false, eq-eqb, ne-eqb, ltb-true, ltb-false}
-use Rattle.outline.specs.Lists.{pick, one, from, anywhere, total}
+use Rattle.lists.specs.Lists.{pick, one, from, anywhere, total}
 
 -- a number as a test
 abbrev pub positive : ℕ → Bool
@@ -25,6 +26,10 @@ one-false false h = refl
 pub positive-true : (n : ℕ) → 0 < n → positive n ≡ true
 positive-true zero h = absurd (omega arith)
 positive-true (suc n) h = refl
+
+pub positive-some : (n : ℕ) → positive n ≡ true → 0 < n
+positive-some zero e = absurd (false≢true e)
+positive-some (suc n) e = omega arith
 
 -- some element passes where the number of those that pass is not 0
 pub anywhere-count : (p : ℕ → Bool) (xs : List ℕ) → anywhere p xs ≡ positive (total (λ x. one (p x)) xs)
@@ -155,9 +160,30 @@ at-same w x q = go (eqb x q) refl
 pub total-at : (w : ℕ → ℕ) (x : ℕ) (xs : List ℕ) → total (λ q. w q * one (eqb x q)) xs ≡ w x * occurs x xs
 total-at w x xs = ap (λ f. total f xs) (fun-ext (at-same w x)) ∙ total-scale (w x) (λ q. one (eqb x q)) xs
 
-pub total-single : (w : ℕ → ℕ) (x a n : ℕ) → x < a + n → (x < a → w x ≡ 0) → total (λ q. w q * one (eqb x q)) (from a n) ≡ w x
+total-single : (w : ℕ → ℕ) (x a n : ℕ) → x < a + n → (x < a → w x ≡ 0) → total (λ q. w q * one (eqb x q)) (from a n) ≡ w x
 total-single w x a n h z = total-at w x (from a n) ∙ go (ltb x a) refl
   where
     go : (b : Bool) → ltb x a ≡ b → w x * occurs x (from a n) ≡ w x
     go true e = rw (z (ltb-true x a e)) (omega arith)
     go false e = rw (occurs-once x a n (ltb-false x a e) h) (omega arith)
+
+-- the terms at x and at y, picked out of a sum
+pub total-two : (w : ℕ → ℕ) (x y a n : ℕ) → x < a + n → (x < a → w x ≡ 0) → y < a + n → (y < a → w y ≡ 0)
+    → total (λ q. w q * (one (eqb x q) + one (eqb y q))) (from a n) ≡ w x + w y
+total-two w x y a n hx zx hy zy =
+    simp mul-add (omega (arith, total-add (λ q. w q * one (eqb x q)) (λ q. w q * one (eqb y q)) (from a n), total-single w x a n hx zx, total-single w y a n hy zy))
+
+-- two terms are at most the sum
+pub total-pair : (w : ℕ → ℕ) (x y n : ℕ) → x ≢ y → 1 ≤ x → x ≤ n → 1 ≤ y → y ≤ n → w x + w y ≤ total w (from 1 n)
+total-pair w x y n d lx ux ly uy =
+    omega (
+      arith,
+      total-two w x y 1 n (omega arith) (λ h. absurd (omega arith)) (omega arith) (λ h. absurd (omega arith)),
+      total-below _ w (from 1 n) (λ q. each q _ _ refl refl),
+    )
+  where
+    each : (q : ℕ) (b c : Bool) → eqb x q ≡ b → eqb y q ≡ c → w q * (one b + one c) ≤ w q
+    each q true true e f = absurd (d (eqb-true x q e ∙ sym (eqb-true y q f)))
+    each q true false e f = omega arith
+    each q false true e f = omega arith
+    each q false false e f = omega arith

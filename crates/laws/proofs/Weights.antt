@@ -7,7 +7,7 @@ use native.Mathlib.Omega.{arith}
 use native.Mathlib.Nat.{pow-succ', le-refl, le-trans}
 use native.Mathlib.Numerals.{one-add}
 use lib.Pow.{pow-mono}
-use Rattle.outline.specs.Lists.{pick, one, from, total}
+use Rattle.lists.specs.Lists.{pick, one, from, total}
 use Rattle.outline.specs.Outline.{size, records, isTaxon}
 use Rattle.outline.specs.Refusals.{taxaIn, mostTaxa}
 use Rattle.outline.proofs.Kept.{Kept}

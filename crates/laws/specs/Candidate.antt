@@ -2,7 +2,7 @@
 use Prim.Native.Nat.{ℕ, _+_}
 use mathlib.Core.Bool.{Bool, _||_, _&&_}
 use lib.Dec.{eqb, ltb, leb}
-use Rattle.outline.specs.Lists.{pick}
+use Rattle.lists.specs.Lists.{pick}
 
 -- what a set is worth; its code is the set read as a binary number, the first taxon the most significant digit
 pub record Value : Type 0 where

@@ -3,7 +3,7 @@ use Prim.Native.Nat.{ℕ, zero, suc, _+_}
 use mathlib.Core.Bool.{Bool, true, false}
 use mathlib.Core.List.{List}
 use lib.Dec.{eqb}
-use Rattle.outline.specs.Lists.{one}
+use Rattle.lists.specs.Lists.{one}
 use Rattle.outline.specs.Outline.{size, next, first}
 
 -- a record, its members, the rest of its chain

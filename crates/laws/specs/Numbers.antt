@@ -1,7 +1,7 @@
 -- A set of taxa as a binary number, the first taxon the most significant digit, and what a set is worth.
 use Prim.Native.Nat.{ℕ, _+_, _-_, _/_, _%_, _^_}
 use mathlib.Core.List.{List, map}
-use Rattle.outline.specs.Lists.{pick, from, total}
+use Rattle.lists.specs.Lists.{pick, from, total}
 use Rattle.outline.specs.Outline.{size, records, isTaxon}
 use Rattle.outline.specs.Refusals.{taxaIn}
 use Rattle.diversity.specs.Diversity.{chosen, diversity, cost}

@@ -1,4 +1,4 @@
--- What an answer's numbers and the buffers print is what the call prints.
+-- What an answer's numbers, the marks and the curve print is what the call prints.
 use Prim.Native.Nat.{ℕ, _+_, _-_, _≤_, _<_}
 use mathlib.Core.Path.{_≡_, refl, sym, ap, _∙_}
 use mathlib.Core.Bool.{Bool, true, false}
@@ -6,14 +6,14 @@ use mathlib.Core.List.{List, [], _∷_}
 use native.Mathlib.Omega.{arith}
 use lib.ListN.{length, take, drop, length-drop}
 use lib.Seq.{take-all}
-use Rattle.outline.specs.Lists.{from}
+use Rattle.lists.specs.Lists.{from, over}
+use Rattle.lists.proofs.Buffers.{over-at}
+use Rattle.refusals.specs.Refusals.{Told}
 use Rattle.outline.specs.Outline.{short, size, records}
-use Rattle.outline.specs.Refusals.{Told}
 use Rattle.diversity.specs.Diversity.{chosen}
 use Rattle.laws.proofs.Optimum.{optimum-set}
-use Rattle.choice.specs.Answer.{Call, Reply, refused, judged, isSelected, bestSet, selected, reply, curveOf, over, marksAfter, curveAfter}
+use Rattle.choice.specs.Answer.{Call, Reply, refused, judged, isSelected, bestSet, selected, reply, curveOf, marksAfter, curveAfter}
 use Rattle.choice.proofs.Answers.{told-selection, selection-told}
-use Rattle.choice.proofs.Buffers.{over-at}
 use Rattle.choice.proofs.Solving.{curve-diversity, curve-cost}
 use Rattle.text.specs.Text.{texts}
 use Rattle.listing.specs.FromBuffers.{columnText, taxonText, columnsText, taxaText, wholeText}

@@ -1,4 +1,4 @@
--- What is printed fits a page of 16,384 bytes.
+-- What is printed fits a buffer of 16,384 bytes.
 use Prim.Native.Nat.{ℕ, _+_, _^_, _≤_, _<_}
 use mathlib.Core.Path.{_≡_, refl, ap, _∙_}
 use mathlib.Core.Logic.{_⊎_, ⊎-elim}
@@ -9,12 +9,13 @@ use lib.Dec.{ltb}
 use lib.ListN.{length, getD, take, length-append, length-take, List·getD-eq-default}
 use lib.Seq.{take-all, getD-take, getD-drop}
 use borrow.Author.Tests.{lt-ltb, le-ltb, ltb-true, ltb-false}
-use Rattle.outline.specs.Lists.{pick, one, from}
+use Rattle.lists.specs.Lists.{pick, one, from}
+use Rattle.lists.proofs.Bools.{one-le}
+use Rattle.refusals.specs.Refusals.{Told}
+use Rattle.refusals.proofs.Placed.{Placed}
 use Rattle.outline.specs.Outline.{short, long, size, records, price, plate}
-use Rattle.outline.specs.Refusals.{Told}
-use Rattle.outline.proofs.Bools.{one-le}
+use Rattle.outline.specs.Refusals.{mostRecords}
 use Rattle.outline.proofs.Kept.{Kept}
-use Rattle.outline.proofs.Placed.{Placed}
 use Rattle.diversity.specs.Diversity.{chosen, diversity, cost, chosenTaxa}
 use Rattle.diversity.specs.Search.{optimum, bestDiversity, leastCost}
 use Rattle.laws.proofs.Optimum.{optimum-fits}
@@ -41,7 +42,7 @@ unfolding long
 long-most l at b = omega (arith, short-most l at b, short-most l (at + 2) b)
 
 -- ---- a refusal
-refusal-most : (t : Told) → Placed t → length (refusalText t) ≤ 14
+refusal-most : (t : Told) → Placed mostRecords t → length (refusalText t) ≤ 14
 unfolding refusalText others
 refusal-most t p =
     simp length-append (omega (

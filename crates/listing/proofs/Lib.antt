@@ -1,4 +1,4 @@
--- Laws of the listing: texts laid in a loop, the lines read from the buffers, and that what is printed fits the page.
+-- Laws of the listing: texts written in a loop, the lines read from marks and curve, and that what is printed fits its buffer.
 pub mod Answers
 pub mod Fits
 pub mod Texts

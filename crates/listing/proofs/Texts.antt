@@ -4,7 +4,7 @@ use mathlib.Core.Path.{_≡_, refl}
 use mathlib.Core.List.{List, [], _∷_}
 use native.Mathlib.Omega.{arith}
 use lib.ListN.{length, length-append}
-use Rattle.outline.specs.Lists.{from, total}
+use Rattle.lists.specs.Lists.{from, total}
 use Rattle.text.specs.Text.{texts}
 
 pub texts-ext : (f g : ℕ → List ℕ) (a n : ℕ) → ((r : ℕ) → a ≤ r → r < a + n → f r ≡ g r) → texts f (from a n) ≡ texts g (from a n)

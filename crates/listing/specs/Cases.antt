@@ -3,7 +3,7 @@
 use Prim.Native.Nat.{ℕ}
 use mathlib.Core.Path.{_≡_, refl}
 use mathlib.Core.List.{List, [], _∷_, _++_}
-use Rattle.outline.specs.Lists.{from, anywhere, total, lowest}
+use Rattle.lists.specs.Lists.{from, anywhere, total, lowest}
 use Rattle.outline.specs.Outline.{short, long, records}
 use Rattle.outline.specs.Refusals.{badField, naming, named, badLink, taxaIn, taxa, hasPlate, isDuplicate, sizeRows, recordRows}
 use Rattle.diversity.specs.Diversity.{chain, clade, chosen, within, elsewhere, rooted, unrooted, diversity, cost, chosenTaxa}

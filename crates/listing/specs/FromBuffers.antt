@@ -1,7 +1,7 @@
--- The lines of a selection, read from the outline and the buffers.
+-- The lines of a selection, read from the outline, the marks and the curve.
 use Prim.Native.Nat.{ℕ}
 use mathlib.Core.List.{List, [], _∷_, _++_}
-use Rattle.outline.specs.Lists.{pick, from}
+use Rattle.lists.specs.Lists.{pick, from}
 use Rattle.outline.specs.Outline.{records, price, plate}
 use Rattle.diversity.specs.Diversity.{chosen}
 use Rattle.choice.specs.Answer.{diversityAt, costAt}

@@ -3,9 +3,9 @@ use Prim.Native.Nat.{ℕ, _+_}
 use mathlib.Core.List.{List, [], _∷_, _++_}
 use lib.ListN.{length, take, drop, replicate}
 use lib.Dec.{ltb}
-use Rattle.outline.specs.Lists.{pick, from}
+use Rattle.lists.specs.Lists.{pick, from}
+use Rattle.refusals.specs.Refusals.{Told}
 use Rattle.outline.specs.Outline.{short, records, price, plate}
-use Rattle.outline.specs.Refusals.{Told}
 use Rattle.diversity.specs.Diversity.{chosen}
 use Rattle.diversity.specs.Search.{bestDiversity, leastCost}
 use Rattle.choice.specs.Answer.{Call, judged, isSelected, bestSet, selected}

@@ -2,7 +2,7 @@
 ghost use Prim.Native.Nat.{_*_, _≤_, _<_};
 ghost use lib.ListN.{length};
 ghost use Rattle.outline.specs.Outline.{size};
-ghost use Rattle.text.specs.Page.{Room, Laid};
+ghost use Rattle.text.specs.Written.{LongEnough, Written};
 ghost use Rattle.listing.specs.FromBuffers.{wholeText};
 ghost use Rattle.listing.specs.Printed.{callOf, answerText, printed};
 use super::columns::put_columns;
@@ -11,12 +11,12 @@ use super::taxa::put_taxa;
 use choice::Answer;
 use choice::choose;
 use outline::fields::short_at;
-use outline::verdict::Refusal;
+use refusals::verdict::Refusal;
 use text::put_line;
 
 // The first line, the columns and the taxa.
 fn put_selection(
-    page: &mut [u8],
+    buffer: &mut [u8],
     first: &[u64],
     curve: &[u32],
     width: usize,
@@ -24,20 +24,20 @@ fn put_selection(
     marks: &[u8],
 ) -> usize
     requires { ⌜ (0 < length (now first)) × (2 * width ≤ length (now curve)) × (size (now o) ≤ length (now marks)) ⌝ }
-    requires { ⌜ Room 0 (wholeText (now first) (now curve) width (now o) (now marks)) (now page) ⌝ }
-    ensures { λ n. ⌜ Laid 0
+    requires { ⌜ LongEnough 0 (wholeText (now first) (now curve) width (now o) (now marks)) (now buffer) ⌝ }
+    ensures { λ n. ⌜ Written 0
         (wholeText (now (first .entry)) (now (curve .entry)) width (now (o .entry)) (now (marks .entry)))
-        (now (page .entry)) (now (page .exit)) n ⌝ }
+        (now (buffer .entry)) (now (buffer .exit)) n ⌝ }
 {
-    let columns = put_line(page, 0, first);
-    let taxa = put_columns(page, columns, curve, width);
-    put_taxa(page, taxa, o, marks)
+    let columns = put_line(buffer, 0, first);
+    let taxa = put_columns(buffer, columns, curve, width);
+    put_taxa(buffer, taxa, o, marks)
 }
 
 // The listing of the bytes that are judged.
-fn list_bytes(page: &mut [u8], bytes: &[u8]) -> usize
-    requires { ⌜ (4 ≤ length (now bytes)) × Room 0 (answerText (callOf (now bytes))) (now page) ⌝ }
-    ensures { λ n. ⌜ Laid 0 (answerText (callOf (now (bytes .entry)))) (now (page .entry)) (now (page .exit)) n ⌝ }
+fn list_bytes(buffer: &mut [u8], bytes: &[u8]) -> usize
+    requires { ⌜ (4 ≤ length (now bytes)) × LongEnough 0 (answerText (callOf (now bytes))) (now buffer) ⌝ }
+    ensures { λ n. ⌜ Written 0 (answerText (callOf (now (bytes .entry)))) (now (buffer .entry)) (now (buffer .exit)) n ⌝ }
 {
     let mut marks = [0u8; 127];
     let mut curve = [0u32; 1024];
@@ -47,7 +47,7 @@ fn list_bytes(page: &mut [u8], bytes: &[u8]) -> usize
     let outline = &bytes[4..];
     let answer = choose(outline, count, way, &mut marks, &mut curve, &mut work);
     match answer {
-        Answer::Refused(refusal) => put_refusal(page, refusal),
+        Answer::Refused(refusal) => put_refusal(buffer, refusal),
         Answer::Selected {
             diversity,
             cost,
@@ -61,20 +61,20 @@ fn list_bytes(page: &mut [u8], bytes: &[u8]) -> usize
                 cost as u64,
                 taxa as u64,
             ];
-            put_selection(page, &first, &curve, count as usize + 1, outline, &marks)
+            put_selection(buffer, &first, &curve, count as usize + 1, outline, &marks)
         }
     }
 }
 
-// Lays what an input prints at the beginning of the page, and answers how many bytes it takes.
-pub fn list(input: &[u8], page: &mut [u8; 16384]) -> usize
-    ensures { λ n. ⌜ Laid 0 (printed (now (input .entry))) (now (page .entry)) (now (page .exit)) n ⌝ }
+// Writes what an input prints at the beginning of the buffer, and answers how many bytes it takes.
+pub fn list(input: &[u8], buffer: &mut [u8; 16384]) -> usize
+    ensures { λ n. ⌜ Written 0 (printed (now (input .entry))) (now (buffer .entry)) (now (buffer .exit)) n ⌝ }
 {
     if input.len() < 4 {
-        return put_refusal(page, Refusal::PartialRecord);
+        return put_refusal(buffer, Refusal::PartialRecord);
     }
     if input.len() < 2052 {
-        return list_bytes(page, input);
+        return list_bytes(buffer, input);
     }
-    list_bytes(page, &input[..2052])
+    list_bytes(buffer, &input[..2052])
 }

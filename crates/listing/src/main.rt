@@ -8,7 +8,7 @@ mod taxa;
 fn main() {
     let mut input = [0u8; 2052];
     let read = io::read_full(libc::STDIN_FILENO, &mut input);
-    let mut page = [0u8; 16384];
-    let size = list::list(&input[..read], &mut page);
-    io::write_all(libc::STDOUT_FILENO, &page[..size]);
+    let mut buffer = [0u8; 16384];
+    let size = list::list(&input[..read], &mut buffer);
+    io::write_all(libc::STDOUT_FILENO, &buffer[..size]);
 }

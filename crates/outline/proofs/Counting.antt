@@ -1,5 +1,5 @@
 -- Counting the links: one pass over the records, with a place for each record number.
-use Prim.Native.Nat.{ℕ, _+_, _≤_, _<_}
+use Prim.Native.Nat.{ℕ, _+_, _*_, _≤_, _<_}
 use mathlib.Core.Path.{_≡_, refl, sym, _∙_}
 use mathlib.Core.Bool.{Bool, true, false}
 use mathlib.Core.List.{List}
@@ -8,12 +8,12 @@ use lib.Dec.{eqb, ltb}
 use lib.ListN.{length, getD, set, replicate, length-set, length-replicate, getD-replicate, List·getD-eq-default}
 use lib.Seq.{getD-set-same, getD-set-other}
 use borrow.Author.Tests.{eqb-true, eqb-false, ltb-true, ltb-false}
-use Rattle.outline.specs.Lists.{pick, one}
+use Rattle.lists.specs.Lists.{pick, one}
+use Rattle.lists.proofs.Bools.{one-le}
+use Rattle.lists.proofs.Walk.{Summing, summing-starts, summing-goes, summing-ends}
 use Rattle.outline.specs.Outline.{size, records, next, first}
 use Rattle.outline.specs.Refusals.{naming, named, mostRecords}
 use Rattle.outline.specs.Inner.{numbers, counted, Tally}
-use Rattle.outline.proofs.Bools.{one-le}
-use Rattle.outline.proofs.Walk.{Summing, summing-starts, summing-goes, summing-ends}
 
 module _ (l : List ℕ) (link : ℕ) where
   pub counted-length : length (counted link l) ≡ length l
@@ -67,17 +67,17 @@ module _ (o : List ℕ) where
     }
 
     -- no count overflows, before and after the first of the record's two links
-    pub tallied-small : n ≤ mostRecords → (q : ℕ) → getD l q 0 ≤ 252
+    pub tallied-small : n ≤ mostRecords → (q : ℕ) → getD l q 0 < 2 * mostRecords
     tallied-small few q = go (ltb q numbers) refl
       where
-        go : (b : Bool) → ltb q numbers ≡ b → getD l q 0 ≤ 252
+        go : (b : Bool) → ltb q numbers ≡ b → getD l q 0 < 2 * mostRecords
         go true e = omega (arith, t .each q (ltb-true q numbers e) .small)
         go false e = rw (List·getD-eq-default l 0 {n = q} (omega (arith, t .long, ltb-false q numbers e))) (omega arith)
 
-    pub counted-small : n ≤ mostRecords → (link q : ℕ) → getD (counted link l) q 0 ≤ 253
+    pub counted-small : n ≤ mostRecords → (link q : ℕ) → getD (counted link l) q 0 ≤ 2 * mostRecords
     counted-small few link q = go (ltb q numbers) refl
       where
-        go : (b : Bool) → ltb q numbers ≡ b → getD (counted link l) q 0 ≤ 253
+        go : (b : Bool) → ltb q numbers ≡ b → getD (counted link l) q 0 ≤ 2 * mostRecords
         go true e =
             omega (arith, counted-at l link (t .long) q (ltb-true q numbers e), tallied-small few q, one-le (eqb link q))
         go false e =

@@ -9,12 +9,12 @@ use lib.ListN.{length, getD, take, drop, length-drop}
 use lib.Seq.{length-take-le, getD-take, getD-drop}
 use lib.Dec.{eqb}
 use borrow.Author.Tests.{eqb-true, eqb-false, eq-eqb, ne-eqb}
-use Rattle.outline.specs.Lists.{pick, lowest}
+use Rattle.lists.specs.Lists.{pick, lowest}
+use Rattle.lists.proofs.Bools.{both-true}
+use Rattle.lists.proofs.Walk.{lowest-none, lowest-holds, lowest-le}
 use Rattle.outline.specs.Outline.{short, long, size, records, plate, isTaxon}
 use Rattle.outline.specs.Refusals.{hasPlate, mostRecords, isAccepted, foundAt, found}
 use Rattle.outline.proofs.Kept.{Kept, accepted-kept}
-use Rattle.outline.proofs.Bools.{both-true}
-use Rattle.outline.proofs.Walk.{lowest-none, lowest-holds, lowest-le}
 
 -- some taxon has plate p
 pub record Holder (o : List ℕ) (p : ℕ) : Type 0 where

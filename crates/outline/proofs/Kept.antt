@@ -7,12 +7,12 @@ use native.Mathlib.Omega.{arith}
 use lib.ListN.{length}
 use lib.Dec.{eqb, ltb}
 use borrow.Author.Tests.{eqb-true, eqb-false, ltb-true, ltb-false, leb-false, ne-eqb, not-false}
-use Rattle.outline.specs.Outline.{size, records, next, first, branch, price, plate, isTaxon}
+use Rattle.lists.proofs.Bools.{both-false, second-false}
+use Rattle.lists.proofs.Walk.{lowest-none, anywhere-none}
+use Rattle.refusals.proofs.Refusals.{both-pass, row-fails, row-at-fails}
+use Rattle.outline.specs.Outline.{size, next, first, branch, price, plate, isTaxon}
 use Rattle.outline.specs.Refusals.{badField, stray, named, badLink, taxa, hasPlate, isDuplicate, mostRecords, mostTaxa, sizeRows}
 use Rattle.outline.specs.Refusals.{recordRows, checked, isAccepted}
-use Rattle.outline.proofs.Refusals.{both-pass, row-fails, row-at-fails}
-use Rattle.outline.proofs.Bools.{both-false, second-false}
-use Rattle.outline.proofs.Walk.{lowest-none, anywhere-none}
 
 -- q is 0, or the number of a record after r
 pub record Later (o : List ℕ) (r q : ℕ) : Type 0 where
@@ -141,16 +141,16 @@ kept-by o sizes field link few plates = record {
 
 -- with rows 5 to 8
 pub rows-kept : (o : List ℕ) → sizeRows o .number ≡ 0 → recordRows o .number ≡ 0 → Kept o
-unfolding recordRows records
+unfolding recordRows
 rows-kept o e d =
     let fields = both-pass _ _ d in
     let links = both-pass _ _ (fields .1) in
     let few = both-pass _ _ (links .1) in
     kept-by o (sizes-kept o e)
-    (lowest-none _ _ (row-at-fails _ (badField o) o (fields .0)))
-    (lowest-none _ _ (row-at-fails _ (badLink o) o (links .0)))
+    (lowest-none _ _ (row-at-fails _ (badField o) (size o) (fields .0)))
+    (lowest-none _ _ (row-at-fails _ (badLink o) (size o) (links .0)))
     (ltb-false _ _ (row-fails _ _ (few .0)))
-    (lowest-none _ _ (row-at-fails _ (isDuplicate o) o (few .1)))
+    (lowest-none _ _ (row-at-fails _ (isDuplicate o) (size o) (few .1)))
 
 -- what the check establishes
 pub accepted-kept : (o : List ℕ) → isAccepted o ≡ true → Kept o

@@ -1,8 +1,6 @@
 -- Laws that belong to no one function, for the proofs here and in the crates above.
-pub mod Bools
 pub mod Counting
 pub mod Found
 pub mod Kept
 pub mod Placed
-pub mod Refusals
-pub mod Walk
+pub mod Tables

@@ -5,7 +5,7 @@ use mathlib.Core.Bool.{Bool}
 use mathlib.Core.List.{List}
 use lib.Dec.{ltb}
 use lib.ListN.{getD, set}
-use Rattle.outline.specs.Lists.{pick}
+use Rattle.lists.specs.Lists.{pick}
 use Rattle.outline.specs.Outline.{size}
 use Rattle.outline.specs.Refusals.{badField, named, badLink, isDuplicate, mostRecords}
 use Rattle.outline.specs.declared.rules.Rule.{Rule}

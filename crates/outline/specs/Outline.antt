@@ -4,7 +4,7 @@ use mathlib.Core.Bool.{Bool}
 use mathlib.Core.List.{List}
 use lib.ListN.{length, getD}
 use lib.Dec.{eqb}
-use Rattle.outline.specs.Lists.{from}
+use Rattle.lists.specs.Lists.{from}
 
 -- the numbers of two and of four bytes at a place, least significant byte first
 unfoldable pub short : List ℕ → ℕ → ℕ

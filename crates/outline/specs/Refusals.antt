@@ -5,10 +5,9 @@ use mathlib.Core.Bool.{Bool, _||_, _&&_, not}
 use mathlib.Core.List.{List, []}
 use lib.ListN.{length, take, drop}
 use lib.Dec.{eqb, ltb, leb}
-use Rattle.outline.specs.Lists.{pick, one, from, anywhere, total, lowest}
+use Rattle.lists.specs.Lists.{pick, one, from, anywhere, total, lowest}
+use Rattle.refusals.specs.Refusals.{Told, _▸_, row, rowAt}
 use Rattle.outline.specs.Outline.{size, records, next, first, branch, price, plate, isTaxon}
-use Rattle.outline.specs.declared.verdict.Verdict.{Verdict}
-use Rattle.outline.specs.declared.verdict.Refusal.{Refusal}
 
 -- refusal 5: length, price or plate outside its range. A taxon's plate is not 0, a group's price and plate are
 unfoldable pub badField : List ℕ → ℕ → Bool
@@ -52,47 +51,6 @@ hasPlate o p r = isTaxon o r && eqb (plate o r) p
 unfoldable pub isDuplicate : List ℕ → ℕ → Bool
 isDuplicate o r = anywhere (hasPlate o (plate o r)) (from 1 (r - 1))
 
--- what a call is told: a refusal's number in the table and its place, or 0 and 0
-pub record Told : Type 0 where
-  pub number : ℕ
-  pub place : ℕ
-
--- no refusal
-abbrev pub passed : Told
-passed = record { number = 0; place = 0 }
-
--- the number and the place of each refusal; beside it the table's word for it
-abbrev pub refusal : Refusal → Told
-refusal Refusal.UnknownWay = record { number = 1; place = 0 }  -- way
-refusal Refusal.PartialRecord = record { number = 2; place = 0 }  -- ragged
-refusal Refusal.TooManyRecords = record { number = 3; place = 0 }  -- thick
-refusal Refusal.CountTooLarge = record { number = 4; place = 0 }  -- count
-refusal (Refusal.FieldOutOfRange r) = record { number = 5; place = r }  -- field
-refusal (Refusal.BadLink r) = record { number = 6; place = r }  -- link
-refusal Refusal.TooManyTaxa = record { number = 7; place = 0 }  -- crowd
-refusal (Refusal.DuplicatePlate r) = record { number = 8; place = r }  -- twin
-refusal Refusal.BufferTooShort = record { number = 9; place = 0 }  -- space
-
--- and of what the check answers
-abbrev pub told : Verdict → Told
-told Verdict.Accepted = passed
-told (Verdict.Refused e) = refusal e
-
--- rows in their order: the first that holds is given
-infixr 20 _▸_
-abbrev pub _▸_ : Told → Told → Told
-a ▸ b = pick (eqb (a .number) 0) b a
-
--- a row whose place is 0, by its condition
-abbrev pub row : ℕ → Bool → Told
-row n holds = pick holds (record { number = n; place = 0 }) passed
-
--- a row whose place is the lowest record at which its condition holds
-abbrev pub rowAt : ℕ → (ℕ → Bool) → List ℕ → Told
-rowAt n holds o =
-    let place = lowest holds (records o) in
-    pick (eqb place 0) passed (record { number = n; place = place })
-
 -- at most so many records and taxa
 abbrev pub mostRecords : ℕ
 mostRecords = 127
@@ -109,10 +67,10 @@ sizeRows o =
 -- rows 5 to 8
 unfoldable pub recordRows : List ℕ → Told
 recordRows o =
-    rowAt 5 (badField o) o
-    ▸ rowAt 6 (badLink o) o
+    rowAt 5 (badField o) (size o)
+    ▸ rowAt 6 (badLink o) (size o)
     ▸ row 7 (ltb mostTaxa (taxa o))
-    ▸ rowAt 8 (isDuplicate o) o
+    ▸ rowAt 8 (isDuplicate o) (size o)
 
 -- what the check alone gives
 unfoldable pub checked : List ℕ → Told

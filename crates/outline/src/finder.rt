@@ -1,9 +1,9 @@
 // Finding the record of a plate.
 ghost use mathlib.Core.Path.{_≡_};
 ghost use Rattle.outline.specs.Refusals.{foundAt, found};
+use super::checker::check;
 use super::rules::holder_of;
-use super::verdict::Verdict;
-use super::verdict::check;
+use refusals::verdict::Verdict;
 
 // The record of the taxon of a plate; 0 if the check refuses the outline or no taxon has the plate.
 pub fn find_record(outline: &[u8], plate: u32) -> usize

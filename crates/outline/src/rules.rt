@@ -2,9 +2,9 @@
 ghost use mathlib.Core.Path.{_≡_};
 ghost use Prim.Native.Nat.{_≤_, _<_};
 ghost use lib.ListN.{getD};
-ghost use Rattle.outline.specs.Lists.{from, lowest};
+ghost use Rattle.lists.specs.Lists.{from, lowest};
 ghost use Rattle.outline.specs.Inner.{IsRecord, breaks, counted, Tally};
-ghost use Rattle.outline.specs.Outline.{size, records};
+ghost use Rattle.outline.specs.Outline.{size};
 ghost use Rattle.outline.specs.Refusals.{badField, stray, badLink, taxa, hasPlate, isDuplicate, mostRecords};
 use super::fields::branch_of;
 use super::fields::first_of;
@@ -12,10 +12,9 @@ use super::fields::is_taxon;
 use super::fields::next_of;
 use super::fields::plate_of;
 use super::fields::price_of;
-use super::verdict::MOST_RECORDS;
-
-// Record numbers are below this, with 0 for no record.
-pub const NUMBERS: usize = MOST_RECORDS + 1;
+use super::limits::MOST_LENGTH;
+use super::limits::MOST_PRICE;
+use super::limits::NUMBERS;
 
 // The rules that each record has to keep.
 pub enum Rule {
@@ -29,11 +28,11 @@ fn bad_field(o: &[u8], r: usize) -> bool
     requires { ⌜ IsRecord (now o) r ⌝ }
     ensures { λ v. ⌜ v ≡ badField (now (o .entry)) r ⌝ }
 {
-    let long = 1000000 < branch_of(o, r);
+    let long = MOST_LENGTH < branch_of(o, r);
     let price = price_of(o, r);
     let plate = plate_of(o, r);
     if is_taxon(o, r) {
-        long | ((65535 < price) | (plate == 0))
+        long | ((MOST_PRICE < price) | (plate == 0))
     } else {
         long | ((price != 0) | (plate != 0))
     }
@@ -46,9 +45,9 @@ fn is_stray(o: &[u8], r: usize, link: usize) -> bool
     (link != 0) & ((link <= r) | (o.len() / 16 < link))
 }
 
-// Adds one to the count of a link, if it has one.
-fn count_link(counts: &mut [u8; NUMBERS], link: usize)
-    requires { ⌜ getD (now counts) link 0 < 255 ⌝ }
+// Adds one to the count of a link; a number that no record can have has no count.
+fn count_link(counts: &mut [u16; NUMBERS], link: usize)
+    requires { ⌜ getD (now counts) link 0 < 65535 ⌝ }
     ensures { λ _. ⌜ now (counts .exit) ≡ counted link (now (counts .entry)) ⌝ }
 {
     if link < NUMBERS {
@@ -57,7 +56,7 @@ fn count_link(counts: &mut [u8; NUMBERS], link: usize)
 }
 
 // How many link fields hold each record number: one pass for all records.
-pub fn count_links(o: &[u8]) -> [u8; NUMBERS]
+pub fn count_links(o: &[u8]) -> [u16; NUMBERS]
     requires { ⌜ size (now o) ≤ mostRecords ⌝ }
     ensures { λ counts. ⌜ Tally (now (o .entry)) counts ⌝ }
 {
@@ -73,7 +72,7 @@ pub fn count_links(o: &[u8]) -> [u8; NUMBERS]
 }
 
 // Whether a link of record r is stray, or it is record 1 and has a next, or it is another and is not named exactly once.
-fn bad_link(o: &[u8], counts: &[u8; NUMBERS], r: usize) -> bool
+fn bad_link(o: &[u8], counts: &[u16; NUMBERS], r: usize) -> bool
     requires { ⌜ IsRecord (now o) r ⌝ }
     requires { ⌜ Tally (now o) (now counts) ⌝ }
     ensures { λ v. ⌜ v ≡ badLink (now (o .entry)) r ⌝ }
@@ -135,7 +134,7 @@ fn is_duplicate(o: &[u8], r: usize) -> bool
     holder_of(o, plate_of(o, r), r - 1) != 0
 }
 
-fn is_broken(o: &[u8], counts: &[u8; NUMBERS], rule: Rule, r: usize) -> bool
+fn is_broken(o: &[u8], counts: &[u16; NUMBERS], rule: Rule, r: usize) -> bool
     requires { ⌜ IsRecord (now o) r ⌝ }
     requires { ⌜ Tally (now o) (now counts) ⌝ }
     ensures { λ v. ⌜ v ≡ breaks (now (o .entry)) rule r ⌝ }
@@ -148,9 +147,9 @@ fn is_broken(o: &[u8], counts: &[u8; NUMBERS], rule: Rule, r: usize) -> bool
 }
 
 // The lowest record that breaks a rule, 0 if none does.
-pub fn broken_at(o: &[u8], counts: &[u8; NUMBERS], rule: Rule) -> usize
+pub fn broken_at(o: &[u8], counts: &[u16; NUMBERS], rule: Rule) -> usize
     requires { ⌜ Tally (now o) (now counts) ⌝ }
-    ensures { λ v. ⌜ v ≡ lowest (breaks (now (o .entry)) rule) (records (now (o .entry))) ⌝ }
+    ensures { λ v. ⌜ v ≡ lowest (breaks (now (o .entry)) rule) (from 1 (size (now (o .entry)))) ⌝ }
 {
     let n = o.len() / 16;
     let mut r = 1;

@@ -69,7 +69,7 @@ pub fn links_in_range() {
     changed(b"first of record 5 is 65,535", 5, [0, 65535, 5, 0, 0]);
 }
 
-// The root stands under no heading, so it has no next. Each other record is named by exactly one link.
+// The root is in no group, so it has no next. Each other record is named by exactly one link.
 pub fn naming() {
     let mut two = one_record([2, 0, 1, 1, 7]);
     put(&mut two, 2, [0, 0, 1, 1, 8]);
@@ -87,12 +87,12 @@ pub fn naming() {
     check(b"record 3 named by both links of one record", &buffer, 4);
 }
 
-// A heading may have a single member.
+// A group may have a single member.
 pub fn single_members() {
     let mut buffer = one_record([0, 2, 0, 0, 0]);
     put(&mut buffer, 2, [0, 3, 7, 0, 0]);
     put(&mut buffer, 3, [0, 0, 0, 2, 1]);
-    check(b"a chain of one member under each heading", &buffer, 3);
+    check(b"a chain of one member in each group", &buffer, 3);
 }
 
 // The place is the lowest record at fault, by its own links or by being named wrongly.

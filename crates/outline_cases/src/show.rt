@@ -5,7 +5,7 @@ use outline::fields::first_of;
 use outline::fields::next_of;
 use outline::fields::plate_of;
 use outline::fields::price_of;
-use outline::verdict::Verdict;
+use refusals::verdict::Verdict;
 use samples::outlines::Buffer;
 use samples::outlines::first_bytes;
 use samples::outlines::tree_a_with;

@@ -1,23 +1,22 @@
--- What the C interface gives: the numbers that are returned, and what is left in the memory that was lent.
+-- What the C interface gives: the numbers that are returned and written, and what is left in the memory that was lent.
 use Prim.Native.Nat.{ℕ}
 use mathlib.Core.Path.{_≡_}
-use mathlib.Core.List.{List, [], _∷_}
-use Rattle.outline.specs.Refusals.{checked}
-use Rattle.choice.specs.Answer.{Call, Reply, reply, marksAfter, curveAfter, workAfter}
+use mathlib.Core.List.{List}
+use lib.ListN.{getD}
+use Rattle.choice.specs.Answer.{Call, Reply, Answered}
 
--- the check gives 0 with place 0, or the refusal's number with its place
-pub record Checked (outline : List ℕ) (number place : ℕ) : Type 0 where
-  pub number-told : number ≡ checked outline .number
-  pub place-told : place ≡ checked outline .place
+-- the six numbers that stand in `answer`
+abbrev pub replyIn : List ℕ → Reply
+replyIn answer = record {
+  number = getD answer 0 0;
+  place = getD answer 1 0;
+  diversity = getD answer 2 0;
+  cost = getD answer 3 0;
+  taxa = getD answer 4 0;
+  spare = getD answer 5 0;
+}
 
--- the six numbers of a reply, as they are written
-abbrev pub six : Reply → List ℕ
-six r = r .number ∷ r .place ∷ r .diversity ∷ r .cost ∷ r .taxa ∷ r .spare ∷ []
-
--- choosing gives the number, writes all six, and leaves each buffer as `choose` does
+-- choosing gives the first of the six, and a call is answered by them as `choose` answers it
 pub record Chosen (c : Call) (number : ℕ) (answer marks curve work : List ℕ) : Type 0 where
-  pub number-told : number ≡ reply c .number
-  pub answer-told : answer ≡ six (reply c)
-  pub marks-written : marks ≡ marksAfter c
-  pub curve-written : curve ≡ curveAfter c
-  pub work-cleared : work ≡ workAfter c
+  pub number-given : number ≡ replyIn answer .number
+  pub answered : Answered c (replyIn answer) marks curve work

@@ -1,21 +1,22 @@
 // The C interface: checking an outline, finding a plate's record, and choosing, over memory that the caller lends.
 // include/plates.h declares these functions.
 ghost use mathlib.Core.Path.{_≡_};
-ghost use Rattle.outline.specs.Refusals.{foundAt};
+ghost use Rattle.refusals.specs.Refusals.{tells};
+ghost use Rattle.outline.specs.Refusals.{checked, foundAt};
 ghost use Rattle.choice.specs.Answer.{call};
-ghost use Rattle.plates.specs.Interface.{Checked, Chosen};
+ghost use Rattle.plates.specs.Interface.{Chosen};
 use choice::Answer;
 use choice::choose;
 use outline::check;
 use outline::find_record;
-use outline::verdict::Verdict;
-use outline::verdict::number_of;
-use outline::verdict::place_of;
+use refusals::verdict::Verdict;
+use refusals::verdict::number_of;
+use refusals::verdict::place_of;
 
 // 0, or the number of the first row of the table that refuses an outline; writes its place.
 #[no_mangle]
 pub extern "C" fn plates_check(outline: &[u8], place: &mut u32) -> u32
-    ensures { λ n. ⌜ Checked (now (outline .entry)) n (now (place .exit)) ⌝ }
+    ensures { λ n. ⌜ tells n (now (place .exit)) ≡ checked (now (outline .entry)) ⌝ }
 {
     match check(outline) {
         Verdict::Accepted => {

@@ -4,7 +4,7 @@ use mathlib.Core.Path.{_≡_, ap, _∙_}
 use mathlib.Core.List.{List}
 use native.Mathlib.Omega.{arith}
 use lib.Pow.{pow-mono}
-use Rattle.outline.specs.Lists.{pick, total}
+use Rattle.lists.specs.Lists.{pick, total}
 use Rattle.outline.specs.Outline.{size, next, first, branch, price, records, isTaxon}
 use Rattle.outline.specs.Refusals.{taxa, taxaIn, mostRecords, mostTaxa}
 use Rattle.outline.proofs.Kept.{Linked, Kept}

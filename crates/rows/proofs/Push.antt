@@ -6,8 +6,8 @@ use mathlib.Core.List.{List}
 use mathlib.Core.Logic.{_⊎_, inl, inr, ⊎-elim}
 use native.Mathlib.Omega.{arith}
 use borrow.Author.Tests.{eq-eqb}
+use Rattle.lists.specs.Lists.{one}
 use Rattle.outline.specs.Outline.{branch, price}
-use Rattle.outline.specs.Lists.{one}
 use Rattle.laws.specs.Forest.{Forest, empty, node, countIn}
 use Rattle.laws.specs.Candidate.{Value, plus, charge, nothingWorth, Cand, betterOf}
 use Rattle.laws.proofs.Order.{value-path, plus-comm, plus-assoc, plus-charge}

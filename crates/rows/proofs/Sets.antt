@@ -7,7 +7,7 @@ use mathlib.Core.Logic.{_⊎_, inl, inr, _↔_}
 use native.Mathlib.Omega.{arith}
 use lib.Dec.{eqb}
 use borrow.Author.Tests.{eq-eqb}
-use Rattle.outline.specs.Lists.{pick, one}
+use Rattle.lists.specs.Lists.{pick, one}
 use Rattle.outline.specs.Outline.{branch, price}
 use Rattle.laws.specs.Forest.{Forest, empty, node, sumIn, countIn, isGroup}
 use Rattle.laws.specs.Candidate.{Value, plus, charge}

@@ -6,7 +6,7 @@ use mathlib.Core.List.{List, _∷_, map}
 use mathlib.Core.Logic.{_⊎_, inl, inr}
 use native.Mathlib.Omega.{arith}
 use lib.Dec.{eqb}
-use Rattle.outline.specs.Lists.{pick, one, from}
+use Rattle.lists.specs.Lists.{pick, one, from}
 use Rattle.outline.specs.Outline.{size, first, price, records, isTaxon}
 use Rattle.outline.proofs.Kept.{Linked}
 use Rattle.diversity.specs.Diversity.{chosen, diversity, rooted, unrooted, cost}

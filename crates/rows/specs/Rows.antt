@@ -4,7 +4,7 @@ use Prim.Native.Nat.{ℕ, _-_}
 use mathlib.Core.Bool.{Bool, not}
 use mathlib.Core.List.{List}
 use lib.Dec.{eqb}
-use Rattle.outline.specs.Lists.{pick}
+use Rattle.lists.specs.Lists.{pick}
 use Rattle.outline.specs.Outline.{branch, price}
 use Rattle.laws.specs.Forest.{Forest, empty, node, tree, isGroup}
 use Rattle.laws.specs.Numbers.{weight}

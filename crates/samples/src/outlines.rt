@@ -79,9 +79,9 @@ pub fn star(n: u32, length: u32, price: u32) -> Buffer
     buffer
 }
 
-// Groups one within the other, n records in all: under each heading a taxon, then the next group. The last record is a
-// taxon in any case, so half of the records are taxa, rounded up. Every record has
-// the one length and every taxon the one price. A taxon's plate is its record number.
+// Groups one within the other, n records in all: in each a taxon, then the next group. The last record is a taxon in any
+// case, so half of the records are taxa, rounded up. Every record has the one length and every taxon the one price. A
+// taxon's plate is its record number.
 pub fn comb(n: u32, length: u32, price: u32) -> Buffer
     requires { ⌜ (2 ≤ n) × (n ≤ 129) ⌝ }
 {

@@ -1,8 +1,8 @@
 // Words and numbers on standard output.
 use libc::STDOUT_FILENO;
-use outline::verdict::Refusal;
-use outline::verdict::number_of;
-use outline::verdict::place_of;
+use refusals::verdict::Refusal;
+use refusals::verdict::number_of;
+use refusals::verdict::place_of;
 
 pub fn say(text: &[u8]) {
     io::write_all(STDOUT_FILENO, text);

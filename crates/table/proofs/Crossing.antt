@@ -6,7 +6,7 @@ use mathlib.Core.List.{List}
 use native.Mathlib.Omega.{arith}
 use lib.ListN.{length}
 use borrow.Author.Tests.{ne-eqb, eqb-false}
-use Rattle.outline.specs.Lists.{pick}
+use Rattle.lists.specs.Lists.{pick}
 use Rattle.outline.specs.Outline.{next, first, branch, isTaxon}
 use Rattle.outline.proofs.Kept.{Kept}
 use Rattle.laws.specs.Candidate.{betterOf, chargeOf}

@@ -8,7 +8,7 @@ use native.Mathlib.Omega.{arith}
 use lib.Dec.{eqb}
 use lib.ListN.{length}
 use borrow.Author.Tests.{eq-eqb, ne-eqb}
-use Rattle.outline.specs.Lists.{pick}
+use Rattle.lists.specs.Lists.{pick}
 use Rattle.outline.specs.Outline.{size, first, branch, price, isTaxon}
 use Rattle.outline.proofs.Kept.{Later}
 use Rattle.laws.specs.Candidate.{Cand, betterOf, chargeOf}

@@ -8,7 +8,7 @@ use native.Mathlib.Omega.{arith}
 use lib.Dec.{eqb}
 use lib.ListN.{length}
 use borrow.Author.Tests.{eq-eqb, ne-eqb}
-use Rattle.outline.specs.Lists.{pick}
+use Rattle.lists.specs.Lists.{pick}
 use Rattle.outline.specs.Outline.{size, next, first, branch, price, records, isTaxon}
 use Rattle.outline.proofs.Kept.{Kept}
 use Rattle.laws.specs.Candidate.{nothingWorth, none, some, betterOf, chargeOf, oneAt}

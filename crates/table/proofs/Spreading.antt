@@ -8,7 +8,7 @@ use native.Mathlib.Omega.{arith}
 use lib.Dec.{leb}
 use lib.ListN.{length}
 use borrow.Author.Tests.{le-ltb, ne-eqb}
-use Rattle.outline.specs.Lists.{pick}
+use Rattle.lists.specs.Lists.{pick}
 use Rattle.outline.specs.Outline.{first, branch, price}
 use Rattle.laws.specs.Candidate.{Value, nothingWorth, beats, Cand, none, some, betterOf, joinOf, oneAt}
 use Rattle.laws.proofs.Order.{value-path, better-none, better-comm, better-assoc}

@@ -8,10 +8,10 @@ use native.Mathlib.Omega.{arith}
 use lib.Dec.{leb}
 use lib.ListN.{length}
 use borrow.Author.Tests.{leb-true, leb-false, lt-leb}
+use Rattle.lists.specs.Lists.{pick}
 use Rattle.laws.specs.Candidate.{Value, Cand, none, some, betterOf, joinOf, oneAt}
 use Rattle.laws.proofs.Order.{better-none}
 use Rattle.rows.specs.Rows.{Row, betterRow, joinRow}
-use Rattle.outline.specs.Lists.{pick}
 use Rattle.table.specs.Cells.{cell}
 use Rattle.table.specs.Memory.{rowAt, Written, Blank, Joins, joinFrom, joinOver, Bettering, Joining}
 

@@ -7,7 +7,7 @@ use native.Mathlib.Omega.{arith}
 use native.Mathlib.Nat.{eq-or-lt-of-le}
 use lib.Dec.{eqb, ltb}
 use borrow.Author.Tests.{lt-ltb, le-ltb, eq-eqb, ne-eqb, eqb-true, eqb-false, ltb-true, ltb-false}
-use Rattle.outline.specs.Lists.{pick}
+use Rattle.lists.specs.Lists.{pick}
 use Rattle.laws.specs.Candidate.{Value, none, some, beats, betterOf, joinOf, chargeOf}
 use Rattle.laws.proofs.Order.{Beats, more, cheaper, earlier, AtLeast, value-path, beats-true, beats-false}
 use Rattle.table.specs.Cells.{unit, seen, diversityOf, costOf, codeOf, Joinable}

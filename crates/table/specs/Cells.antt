@@ -3,11 +3,12 @@ use Prim.Native.Nat.{ℕ, _+_, _*_, _-_, _/_, _%_, _^_, _<_}
 use mathlib.Core.List.{List}
 use lib.Dec.{eqb}
 use lib.ListN.{getD}
-use Rattle.outline.specs.Lists.{pick}
+use Rattle.lists.specs.Lists.{pick}
 use Rattle.laws.specs.Candidate.{Cand, none, some}
 use Rattle.table.specs.declared.candidate.Candidate.{Candidate}
 
--- times this, a diversity leaves room for a cost below it
+-- a score takes a diversity times this, less the cost; costs are below it, so that scores compare by diversity first and then
+-- by cost
 abbrev pub unit : ℕ
 unit = 65536
 

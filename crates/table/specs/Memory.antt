@@ -5,7 +5,7 @@ use mathlib.Core.Logic.{_⊎_, _≢_}
 use mathlib.Core.List.{List}
 use lib.Dec.{leb}
 use lib.ListN.{length}
-use Rattle.outline.specs.Lists.{pick}
+use Rattle.lists.specs.Lists.{pick}
 use Rattle.laws.specs.Candidate.{Cand, none, betterOf, joinOf, chargeOf}
 use Rattle.rows.specs.Rows.{Row, betterRow}
 use Rattle.table.specs.Cells.{cell, diversityOf, Joinable}

@@ -6,7 +6,7 @@ use mathlib.Core.Bool.{true, false}
 use mathlib.Core.List.{List}
 use lib.Dec.{eqb}
 use lib.ListN.{length}
-use Rattle.outline.specs.Lists.{pick}
+use Rattle.lists.specs.Lists.{pick}
 use Rattle.outline.specs.Outline.{size, branch, price, isTaxon}
 use Rattle.outline.proofs.Kept.{Kept}
 use Rattle.diversity.specs.Search.{optimum}

@@ -4,7 +4,8 @@ ghost use Prim.Native.Nat.{_+_, _<_, _^_};
 ghost use Rattle.laws.specs.Candidate.{none, some, betterOf, joinOf, chargeOf};
 ghost use Rattle.table.specs.Cells.{unit, view, diversityOf, costOf, Joinable};
 
-// Times this, a diversity leaves room for a cost below it.
+// A score takes a diversity times UNIT, less the cost. Costs are below UNIT, so that scores compare by diversity first and then
+// by cost.
 pub const UNIT: u64 = 65536;
 
 // Two words that compare as sets do, and are stored and read as they are.

@@ -19,7 +19,7 @@ pub fn read(work: &[u64], at: usize) -> Candidate
     }
 }
 
-// Column b of the row that begins at a cell. The row at cell 0 has no set in any column: it is known, and not looked at.
+// Column b of the row that begins at a cell. The row at cell 0 has no set in any column, so it is not read.
 fn column(work: &[u64], row: usize, b: usize) -> Candidate
     requires { ⌜ 2 * (row + b) + 1 < length (now work) ⌝ }
     requires { ⌜ (row ≡ 0 → cell (now work) (row + b) ≡ none) ⌝ }

@@ -1,6 +1,6 @@
 // The unrooted way: every pair of a clade and the rest of its chain, by one recursion over the links.
 ghost use mathlib.Core.Path.{_≡_};
-ghost use Rattle.outline.specs.Lists.{pick};
+ghost use Rattle.lists.specs.Lists.{pick};
 ghost use lib.Dec.{eqb};
 ghost use Rattle.table.specs.Table.{IsTaxon};
 ghost use Rattle.table.specs.Spread.{Running, Pairable, Spreadable, Spread, BySingle, ByPairs, TaxonSpreadable, TaxonSpread, Crossable, Crossed, Meets, Met};

@@ -1,4 +1,4 @@
--- Laws of laying text, for the proofs here and in the crates above.
+-- Laws of writing text, for the proofs here and in the crates above.
 pub mod Decimal
-pub mod Laying
 pub mod Lines
+pub mod Writing

@@ -1,3 +1,3 @@
--- Text: what it is to lay it on a page, and numbers and lines as text.
-pub mod Page
+-- Text: what it is to write it into a buffer, and numbers and lines as text.
 pub mod Text
+pub mod Written

@@ -1,60 +1,60 @@
-// Text laid on a lent page: bytes, numbers and lines of numbers. Each function takes the place where its text begins and
-// answers the place after it; the rest of the page keeps what it holds.
+// Text written into a lent buffer: bytes, numbers and lines of numbers. Each function takes the place where its text begins and
+// answers the place after it; the rest of the buffer keeps what it holds.
 ghost use Prim.Native.Nat.{_<_};
 ghost use mathlib.Core.List.{[], _∷_};
 ghost use lib.ListN.{length};
-ghost use Rattle.text.specs.Page.{Room, Laid};
+ghost use Rattle.text.specs.Written.{LongEnough, Written};
 ghost use Rattle.text.specs.Text.{decimal, others, line};
 
-fn put_byte(page: &mut [u8], at: usize, byte: u8) -> usize
-    requires { ⌜ at < length (now page) ⌝ }
-    ensures { λ r. ⌜ Laid at (byte ∷ []) (now (page .entry)) (now (page .exit)) r ⌝ }
+fn put_byte(buffer: &mut [u8], at: usize, byte: u8) -> usize
+    requires { ⌜ at < length (now buffer) ⌝ }
+    ensures { λ r. ⌜ Written at (byte ∷ []) (now (buffer .entry)) (now (buffer .exit)) r ⌝ }
 {
-    page[at] = byte;
+    buffer[at] = byte;
     at + 1
 }
 
-pub fn put_text(page: &mut [u8], at: usize, text: &[u8]) -> usize
-    requires { ⌜ Room at (now text) (now page) ⌝ }
-    ensures { λ r. ⌜ Laid at (now (text .entry)) (now (page .entry)) (now (page .exit)) r ⌝ }
+pub fn put_text(buffer: &mut [u8], at: usize, text: &[u8]) -> usize
+    requires { ⌜ LongEnough at (now text) (now buffer) ⌝ }
+    ensures { λ r. ⌜ Written at (now (text .entry)) (now (buffer .entry)) (now (buffer .exit)) r ⌝ }
 {
     let mut i = 0;
     while i < text.len() {
-        page[at + i] = text[i];
+        buffer[at + i] = text[i];
         i += 1;
     }
     at + i
 }
 
-fn put_number(page: &mut [u8], at: usize, n: u64) -> usize
-    requires { ⌜ Room at (decimal n) (now page) ⌝ }
-    ensures { λ r. ⌜ Laid at (decimal n) (now (page .entry)) (now (page .exit)) r ⌝ }
+fn put_number(buffer: &mut [u8], at: usize, n: u64) -> usize
+    requires { ⌜ LongEnough at (decimal n) (now buffer) ⌝ }
+    ensures { λ r. ⌜ Written at (decimal n) (now (buffer .entry)) (now (buffer .exit)) r ⌝ }
 {
     let mut digits = [0u8; 20];
     let k = io::decimal(n, &mut digits);
-    put_text(page, at, &digits[..k])
+    put_text(buffer, at, &digits[..k])
 }
 
 // The rest of a line: a blank before each number, then the line end.
-pub fn put_others(page: &mut [u8], at: usize, numbers: &[u64]) -> usize
-    requires { ⌜ Room at (others (now numbers)) (now page) ⌝ }
-    ensures { λ r. ⌜ Laid at (others (now (numbers .entry))) (now (page .entry)) (now (page .exit)) r ⌝ }
+pub fn put_others(buffer: &mut [u8], at: usize, numbers: &[u64]) -> usize
+    requires { ⌜ LongEnough at (others (now numbers)) (now buffer) ⌝ }
+    ensures { λ r. ⌜ Written at (others (now (numbers .entry))) (now (buffer .entry)) (now (buffer .exit)) r ⌝ }
 {
     let mut to = at;
     let mut i = 0;
     while i < numbers.len() {
-        to = put_byte(page, to, 32);
-        to = put_number(page, to, numbers[i]);
+        to = put_byte(buffer, to, 32);
+        to = put_number(buffer, to, numbers[i]);
         i += 1;
     }
-    put_byte(page, to, 10)
+    put_byte(buffer, to, 10)
 }
 
 // A line of at least one number.
-pub fn put_line(page: &mut [u8], at: usize, numbers: &[u64]) -> usize
-    requires { ⌜ (0 < length (now numbers)) × Room at (line (now numbers)) (now page) ⌝ }
-    ensures { λ r. ⌜ Laid at (line (now (numbers .entry))) (now (page .entry)) (now (page .exit)) r ⌝ }
+pub fn put_line(buffer: &mut [u8], at: usize, numbers: &[u64]) -> usize
+    requires { ⌜ (0 < length (now numbers)) × LongEnough at (line (now numbers)) (now buffer) ⌝ }
+    ensures { λ r. ⌜ Written at (line (now (numbers .entry))) (now (buffer .entry)) (now (buffer .exit)) r ⌝ }
 {
-    let to = put_number(page, at, numbers[0]);
-    put_others(page, to, &numbers[1..])
+    let to = put_number(buffer, at, numbers[0]);
+    put_others(buffer, to, &numbers[1..])
 }

@@ -62,10 +62,10 @@ pub fn search(records: &[Record], way: u32, count: u32, order: &[u64]) -> Soluti
     }
 }
 
-fn best_for(page_count: u32, subsets: &[Subset]) -> Subset {
+fn best_for(count: u32, subsets: &[Subset]) -> Subset {
     let mut best: Option<Subset> = None;
     for &subset in subsets {
-        if subset.cost > page_count {
+        if subset.cost > count {
             continue;
         }
         if best.is_none_or(|best| subset.is_better_than(best)) {

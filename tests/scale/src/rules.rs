@@ -13,19 +13,19 @@ pub struct Refusal {
 /// The first of refusals 1 to 9 that holds.
 pub fn choose(call: &Call) -> Option<Refusal> {
     let records = outline::records(&call.outline);
-    way(call.way)
-        .or_else(|| size(&call.outline))
-        .or_else(|| record_count(&records))
-        .or_else(|| page_count(call.count))
+    unknown_way(call.way)
+        .or_else(|| partial_record(&call.outline))
+        .or_else(|| too_many_records(&records))
+        .or_else(|| count_too_large(call.count))
         .or_else(|| content(&records))
-        .or_else(|| space(call, records.len()))
+        .or_else(|| buffer_too_short(call, records.len()))
 }
 
 /// The first of refusals 2, 3 and 5 to 8 that holds.
 pub fn check(outline: &[u8]) -> Option<Refusal> {
     let records = outline::records(outline);
-    size(outline)
-        .or_else(|| record_count(&records))
+    partial_record(outline)
+        .or_else(|| too_many_records(&records))
         .or_else(|| content(&records))
 }
 
@@ -44,10 +44,10 @@ pub fn find(outline: &[u8], plate: u32) -> u32 {
 }
 
 fn content(records: &[Record]) -> Option<Refusal> {
-    field(records)
-        .or_else(|| link(records))
-        .or_else(|| taxon_count(records))
-        .or_else(|| plate(records))
+    field_out_of_range(records)
+        .or_else(|| bad_link(records))
+        .or_else(|| too_many_taxa(records))
+        .or_else(|| duplicate_plate(records))
 }
 
 fn numbers(records: &[Record]) -> std::ops::RangeInclusive<usize> {
@@ -68,26 +68,26 @@ fn at_lowest(
     Some(Refusal { number, place })
 }
 
-fn way(way: u32) -> Option<Refusal> {
+fn unknown_way(way: u32) -> Option<Refusal> {
     without_place(1, way != 0 && way != 1)
 }
 
-fn size(outline: &[u8]) -> Option<Refusal> {
+fn partial_record(outline: &[u8]) -> Option<Refusal> {
     without_place(
         2,
         outline.is_empty() || !outline.len().is_multiple_of(RECORD_BYTES),
     )
 }
 
-fn record_count(records: &[Record]) -> Option<Refusal> {
+fn too_many_records(records: &[Record]) -> Option<Refusal> {
     without_place(3, records.len() > 127)
 }
 
-fn page_count(count: u32) -> Option<Refusal> {
+fn count_too_large(count: u32) -> Option<Refusal> {
     without_place(4, count > 4_096)
 }
 
-fn field(records: &[Record]) -> Option<Refusal> {
+fn field_out_of_range(records: &[Record]) -> Option<Refusal> {
     at_lowest(5, records, |records, number| {
         let record = records[number - 1];
         let fits = if record.is_taxon() {
@@ -99,7 +99,7 @@ fn field(records: &[Record]) -> Option<Refusal> {
     })
 }
 
-fn link(records: &[Record]) -> Option<Refusal> {
+fn bad_link(records: &[Record]) -> Option<Refusal> {
     at_lowest(6, records, |records, number| {
         let record = records[number - 1];
         let wrong = |link: u16| {
@@ -122,11 +122,11 @@ fn times_named(records: &[Record], number: usize) -> usize {
         .count()
 }
 
-fn taxon_count(records: &[Record]) -> Option<Refusal> {
+fn too_many_taxa(records: &[Record]) -> Option<Refusal> {
     without_place(7, outline::taxa(records).len() > 64)
 }
 
-fn plate(records: &[Record]) -> Option<Refusal> {
+fn duplicate_plate(records: &[Record]) -> Option<Refusal> {
     at_lowest(8, records, |records, number| {
         let record = records[number - 1];
         record.is_taxon()
@@ -136,7 +136,7 @@ fn plate(records: &[Record]) -> Option<Refusal> {
     })
 }
 
-fn space(call: &Call, records: usize) -> Option<Refusal> {
+fn buffer_too_short(call: &Call, records: usize) -> Option<Refusal> {
     let [marks, curve, work] = needed(records, call.count);
     without_place(
         9,

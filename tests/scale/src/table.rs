@@ -113,7 +113,7 @@ pub fn optima(records: &[Record], way: u32, count: usize) -> Vec<Best> {
         clades[position] = clade;
     }
     let root = take(&mut clades[0]);
-    by_page_count(
+    by_count(
         if way == ROOTED {
             &root.rooted
         } else {
@@ -124,7 +124,7 @@ pub fn optima(records: &[Record], way: u32, count: usize) -> Vec<Best> {
 }
 
 /// From exact costs to page counts: a dearer set needs more diversity to be better.
-fn by_page_count(row: &Row, count: usize) -> Vec<Best> {
+fn by_count(row: &Row, count: usize) -> Vec<Best> {
     let mut best = Best {
         diversity: 0,
         cost: 0,

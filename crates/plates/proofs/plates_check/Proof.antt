@@ -1,8 +1,9 @@
 -- `plates::plates_check` meets its contract.
-use mathlib.Core.Path.{_≡_, ap, _∙_}
+use mathlib.Core.Path.{_≡_, ap, ap₂, _∙_}
 use native.Mathlib.Omega.{arith}
 use borrow.Author.Needs.{needs}
-use Rattle.outline.specs.Refusals.{Told, refusal, checked}
+use Rattle.refusals.specs.Refusals.{Told, tells, refusal}
+use Rattle.outline.specs.Refusals.{checked}
 use Rattle.outline.proofs.Placed.{checked-placed}
 use Rattle.plates.proofs.plates_check.Statement.{statement}
 use Rattle.plates.proofs.plates_check.Tie as tie
@@ -21,18 +22,10 @@ cast-place c =
     record { fits = omega (arith, c .place-of .ensures, ap (λ (t : Told). t .place) (refused f), checked-placed (start f .args .outline .now)) }
 
 returns : tie.Need-returns
-returns c =
-    let k = c .before .before in
-    let e = rw (c .enum-told .given .1) at (k .check .ensures) in
-    record { number-told = ap (λ (t : Told). t .number) e; place-told = ap (λ (t : Told). t .place) e }
+returns c = rw (c .enum-told .given .1) at (c .before .before .check .ensures)
 
 returns-2 : tie.Need-returns-2
-returns-2 c =
-    let e = refused (c .before .before .before) in
-    record {
-      number-told = c .number-of .ensures ∙ ap (λ (t : Told). t .number) e;
-      place-told = c .before .place-of .ensures ∙ ap (λ (t : Told). t .place) e;
-    }
+returns-2 c = ap₂ tells (c .number-of .ensures) (c .before .place-of .ensures) ∙ refused (c .before .before .before)
 
 pub plates-check-spec : {M : Type 1} → statement M
 plates-check-spec =

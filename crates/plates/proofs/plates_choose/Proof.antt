@@ -1,13 +1,12 @@
 -- `plates::plates_choose` meets its contract.
 use Prim.Native.Nat.{_≤_}
 use mathlib.Core.Path.{_≡_, sym, ap, ap₂, _∙_}
-use mathlib.Core.List.{[], _∷_}
 use native.Mathlib.Omega.{arith}
 use borrow.Author.Needs.{needs}
-use Rattle.outline.specs.Refusals.{refusal, mostRecords}
+use Rattle.refusals.specs.Refusals.{tells, refusal}
+use Rattle.outline.specs.Refusals.{mostRecords}
 use Rattle.choice.specs.Answer.{Reply, refused, told}
 use Rattle.choice.proofs.Answers.{reply-place-most}
-use Rattle.plates.specs.Interface.{six}
 use Rattle.plates.proofs.Chosen.{answered-chosen}
 use Rattle.plates.proofs.plates_choose.Statement.{statement}
 use Rattle.plates.proofs.plates_choose.Tie as tie
@@ -32,15 +31,16 @@ returns c =
     let d = c .before .before in
     let h = d .before .before .before .before .before .before .before .before in
     let e = sym (ap told (d .diversity .given .1)) in
-    answered-chosen (h .choose .ensures) (ap (λ (r : Reply). r .number) e) (ap six e)
+    answered-chosen (h .choose .ensures) (ap (λ (r : Reply). r .number) e) e
 
 returns-2 : tie.Need-returns-2
 returns-2 c =
     let n = c .before .before in
     let f = n .before .before in
     let e = refusal-told f in
-    answered-chosen (chosen f .choose .ensures) (n .number-of .ensures ∙ ap (λ (r : Reply). r .number) e)
-    (ap₂ (λ m p. m ∷ p ∷ 0 ∷ 0 ∷ 0 ∷ 0 ∷ []) (n .number-of .ensures) (c .before .place-of .ensures) ∙ ap six e)
+    let number = n .number-of .ensures in
+    answered-chosen (chosen f .choose .ensures) (number ∙ ap (λ (r : Reply). r .number) e)
+    (ap₂ (λ m p. refused (tells m p)) number (c .before .place-of .ensures) ∙ e)
 
 pub plates-choose-spec : {M : Type 1} → statement M
 plates-choose-spec =

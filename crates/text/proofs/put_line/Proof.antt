@@ -3,27 +3,27 @@ use Prim.Native.Nat.{_-_}
 use borrow.Author.Needs.{needs}
 use lib.ListN.{length, take, drop}
 use Rattle.text.specs.Text.{others, line}
-use Rattle.text.proofs.Laying.{Left, left-goes, left-last}
-use Rattle.text.proofs.Lines.{line-left, first-room}
+use Rattle.text.proofs.Writing.{Left, left-goes, left-last}
+use Rattle.text.proofs.Lines.{line-left, first-fits}
 use Rattle.text.proofs.put_line.Statement.{statement}
 use Rattle.text.proofs.put_line.Tie as tie
 
 put-number-requires : tie.Need-put-number-requires
 put-number-requires c κs =
     let s = c .before .before .before .before in
-    first-room _ _ (s .args .page .now) (s .pre .0) (s .pre .1)
+    first-fits _ _ (s .args .buffer .now) (s .pre .0) (s .pre .1)
 
--- the first number is laid
+-- the first number is written
 begun : (c : tie.After-put-number) →
     let s = c .before .before .before .before .before in
     let ns = s .args .numbers .now in
-    Left (s .args .at) (line ns) (s .args .page .now) (c .put-number .result) (others (take (length ns - 1) (drop 1 ns))) (c .put-number .last .0)
+    Left (s .args .at) (line ns) (s .args .buffer .now) (c .put-number .result) (others (take (length ns - 1) (drop 1 ns))) (c .put-number .last .0)
 begun c =
     let s = c .before .before .before .before .before in
-    left-goes _ _ (line-left _ _ (s .args .page .now) (s .pre .0) (s .pre .1)) (c .put-number .ensures) (c .put-number .kept .0)
+    left-goes _ _ (line-left _ _ (s .args .buffer .now) (s .pre .0) (s .pre .1)) (c .put-number .ensures) (c .put-number .kept .0)
 
 put-others-requires : tie.Need-put-others-requires
-put-others-requires c κs = begun (c .before .before .before .before) .room
+put-others-requires c κs = begun (c .before .before .before .before) .fits
 
 returns : tie.Need-returns
 returns c =

@@ -1,25 +1,25 @@
--- `text::put_others` meets its contract: each turn lays a blank and a number.
+-- `text::put_others` meets its contract: each turn writes a blank and a number.
 use Prim.Native.Nat.{_-_}
 use borrow.Author.Needs.{needs}
 use lib.ListN.{length}
-use Rattle.text.proofs.Lines.{Lining, lining-starts, blank-room, number-room, lining-goes, end-room, lining-ends}
+use Rattle.text.proofs.Lines.{Lining, lining-starts, blank-fits, number-fits, lining-goes, end-fits, lining-ends}
 use Rattle.text.proofs.put_others.Statement.{statement}
 use Rattle.text.proofs.put_others.Tie as tie
 
 abbrev Inv-loop : tie.InvT-loop
-Inv-loop page₀ at numbers to₀ i₀ page to i = Lining at numbers page₀ i to page
+Inv-loop buffer₀ at numbers to₀ i₀ buffer to i = Lining at numbers buffer₀ i to buffer
 
 abbrev μ-loop : tie.MeasureT-loop
-μ-loop page₀ at numbers to₀ i₀ page to i = length numbers - i
+μ-loop buffer₀ at numbers to₀ i₀ buffer to i = length numbers - i
 
 put-byte-requires : tie.Need-put-byte-requires Inv-loop μ-loop
-put-byte-requires c κs = blank-room (c .before .before .loop .inv) (c .before .loop-test .taken)
+put-byte-requires c κs = blank-fits (c .before .before .loop .inv) (c .before .loop-test .taken)
 
 put-number-requires : tie.Need-put-number-requires Inv-loop μ-loop
 put-number-requires c κs =
     let byte = c .before .before .before .before in
     let at-loop = byte .before .before .before in
-    number-room (at-loop .loop .inv) (byte .before .before .loop-test .taken) (byte .put-byte .ensures) (byte .put-byte .kept .0)
+    number-fits (at-loop .loop .inv) (byte .before .before .loop-test .taken) (byte .put-byte .ensures) (byte .put-byte .kept .0)
 
 loop-again : tie.Need-loop-again Inv-loop μ-loop
 loop-again c =
@@ -30,7 +30,7 @@ loop-again c =
     (number .put-number .ensures) (number .put-number .kept .0)
 
 put-byte-requires-2 : tie.Need-put-byte-requires-2 Inv-loop μ-loop
-put-byte-requires-2 c κs = end-room (c .before .before .loop .inv) (c .before .loop-test .left)
+put-byte-requires-2 c κs = end-fits (c .before .before .loop .inv) (c .before .loop-test .left)
 
 returns : tie.Need-returns Inv-loop μ-loop
 returns c =

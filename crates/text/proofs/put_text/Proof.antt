@@ -1,19 +1,19 @@
--- `text::put_text` meets its contract: each turn lays one byte of what is left.
+-- `text::put_text` meets its contract: each turn writes one byte of what is left.
 use Prim.Native.Nat.{_+_, _-_, _≤_}
 use native.Mathlib.Omega.{arith}
 use borrow.Author.Needs.{needs}
 use mathlib.Core.Path.{_≡_}
 use lib.ListN.{length, drop}
-use Rattle.text.proofs.Laying.{Left, left-starts, copied-goes, copied-ends}
+use Rattle.text.proofs.Writing.{Left, left-starts, copied-goes, copied-ends}
 use Rattle.text.proofs.put_text.Statement.{statement}
 use Rattle.text.proofs.put_text.Tie as tie
 
 abbrev Inv-loop : tie.InvT-loop
-Inv-loop page₀ at text i₀ page i =
-    (i ≤ length text) × Left at text page₀ (at + i) (drop i text) page
+Inv-loop buffer₀ at text i₀ buffer i =
+    (i ≤ length text) × Left at text buffer₀ (at + i) (drop i text) buffer
 
 abbrev μ-loop : tie.MeasureT-loop
-μ-loop page₀ at text i₀ page i = length text - i
+μ-loop buffer₀ at text i₀ buffer i = length text - i
 
 loop-holds : tie.Need-loop-holds Inv-loop μ-loop
 loop-holds c = let e : c .args .at + 0 ≡ c .args .at = omega arith in (search needs, rw e (left-starts (c .pre)))

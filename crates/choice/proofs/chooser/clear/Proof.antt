@@ -4,7 +4,7 @@ use mathlib.Core.Path.{refl, sym, _∙_}
 use native.Mathlib.Omega.{arith}
 use lib.ListN.{length, replicate, length-replicate, getD-replicate}
 use borrow.Author.Needs.{needs}
-use Rattle.choice.proofs.Buffers.{Rising, rising-starts, rising-goes, rising-ends, rising-long, over-all}
+use Rattle.lists.proofs.Buffers.{Rising, rising-starts, rising-goes, rising-ends, rising-long, over-all}
 use Rattle.choice.proofs.chooser.clear.Statement.{statement}
 use Rattle.choice.proofs.chooser.clear.Tie as tie
 

@@ -4,9 +4,9 @@ use mathlib.Core.Path.{_≡_, ap, _∙_}
 use native.Mathlib.Omega.{arith}
 use lib.ListN.{length, length-set}
 use borrow.Author.Needs.{needs}
+use Rattle.lists.proofs.Buffers.{rising-long}
 use Rattle.table.specs.Cells.{diversityOf, costOf}
 use Rattle.choice.specs.Inner.{topDiversity, topCost}
-use Rattle.choice.proofs.Buffers.{rising-long}
 use Rattle.choice.proofs.Columns.{Drawing, drawing-starts, drawing-goes, drawing-ends}
 use Rattle.choice.proofs.curve.write_curve.Statement.{statement}
 use Rattle.choice.proofs.curve.write_curve.Tie as tie
@@ -34,8 +34,8 @@ cast-curve c =
     omega (arith, read-diversity c, s .pre .diversity-fits (c .before .before .before .loop .b) (c .before .before .loop-test .taken))
 
 -- the curve is long enough
-room : (c : tie.In-loop Inv-loop μ-loop) → 2 * c .before .loop .b + 1 < length (c .before .loop .curve)
-room c = omega (arith, rising-long (c .before .loop .inv), c .loop-test .taken, c .before .before .before .before .pre .room)
+within : (c : tie.In-loop Inv-loop μ-loop) → 2 * c .before .loop .b + 1 < length (c .before .loop .curve)
+within c = omega (arith, rising-long (c .before .loop .inv), c .loop-test .taken, c .before .before .before .before .pre .curve-long)
 
 cast-curve-2 : tie.Need-cast-curve-2 Inv-loop μ-loop
 cast-curve-2 c =
@@ -43,7 +43,7 @@ cast-curve-2 c =
     omega (arith, read-cost c, s .pre .cost-fits (c .before .before .before .before .loop .b) (c .before .before .before .loop-test .taken))
 
 slice-write-curve-2 : tie.Need-slice-write-curve-2 Inv-loop μ-loop
-slice-write-curve-2 c = simp length-set (room (c .before .before .before))
+slice-write-curve-2 c = simp length-set (within (c .before .before .before))
 
 loop-again : tie.Need-loop-again Inv-loop μ-loop
 loop-again c =
@@ -56,13 +56,13 @@ write-curve-spec =
     (tie.spec
     Inv-loop
     μ-loop
-    (λ c. drawing-starts _ _ _ (c .before .before .pre .room))
+    (λ c. drawing-starts _ _ _ (c .before .before .pre .curve-long))
     (λ c κs. search needs)
     (λ c κs. search needs)
     cast-curve
     (λ c. search needs)
     (λ c. search needs)
-    (λ c. omega (arith, room (c .before .before)))
+    (λ c. omega (arith, within (c .before .before)))
     (λ c κs. search needs)
     cast-curve-2
     (λ c. search needs)

@@ -6,9 +6,10 @@ use native.Mathlib.Omega.{arith}
 use lib.Dec.{eqb, ltb}
 use borrow.Author.Needs.{needs}
 use borrow.Author.Tests.{lt-ltb, le-ltb}
+use Rattle.refusals.specs.Refusals.{Told, told, row, _▸_}
+use Rattle.refusals.proofs.Refusals.{refusal-not-zero}
 use Rattle.outline.specs.Outline.{size}
-use Rattle.outline.specs.Refusals.{Told, told, _▸_, row, mostRecords, sizeRows, recordRows}
-use Rattle.outline.proofs.Refusals.{refusal-not-zero}
+use Rattle.outline.specs.Refusals.{mostRecords, sizeRows, recordRows}
 use Rattle.outline.proofs.Kept.{sizes-kept}
 use Rattle.choice.specs.Answer.{Call, call as callOf, mostCount, tooShort, judged}
 use Rattle.choice.proofs.judge.judge.Statement.{statement}

@@ -5,10 +5,10 @@ use native.Mathlib.Omega.{arith}
 use lib.Dec.{eqb}
 use lib.ListN.{getD}
 use borrow.Author.Needs.{needs}
-use Rattle.outline.specs.Lists.{one}
+use Rattle.lists.specs.Lists.{one}
+use Rattle.lists.proofs.Bools.{byte-one, one-le}
+use Rattle.lists.proofs.Walk.{Summing, summing-starts, summing-goes, summing-ends}
 use Rattle.outline.specs.Outline.{records}
-use Rattle.outline.proofs.Bools.{byte-one, one-le}
-use Rattle.outline.proofs.Walk.{Summing, summing-starts, summing-goes, summing-ends}
 use Rattle.diversity.specs.Diversity.{chosen, chosenTaxa}
 use Rattle.choice.proofs.marks.marked.Statement.{statement}
 use Rattle.choice.proofs.marks.marked.Tie as tie

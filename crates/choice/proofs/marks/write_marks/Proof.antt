@@ -5,8 +5,8 @@ use mathlib.Core.Logic.{⊎-elim}
 use native.Mathlib.Omega.{arith}
 use lib.ListN.{length}
 use borrow.Author.Needs.{needs}
+use Rattle.lists.proofs.Buffers.{falling-long}
 use Rattle.outline.specs.Outline.{size}
-use Rattle.choice.proofs.Buffers.{falling-long}
 use Rattle.choice.proofs.Digits.{decode-long, Reading, reading-starts, reading-taxon, reading-group, reading-ends}
 use Rattle.choice.proofs.marks.write_marks.Statement.{statement}
 use Rattle.choice.proofs.marks.write_marks.Tie as tie

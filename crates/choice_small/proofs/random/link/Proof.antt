@@ -1,4 +1,4 @@
--- `choice_small::random::link` is safe and ends: the records go up to 11, and a heading comes before its members.
+-- `choice_small::random::link` is safe and ends: the records go up to 11, and a group comes before its members.
 use Prim.Native.Nat.{_-_, _≤_}
 use borrow.Author.Needs.{needs}
 use Rattle.choice_small.proofs.random.link.Statement.{statement}

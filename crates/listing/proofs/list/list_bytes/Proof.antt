@@ -1,16 +1,16 @@
--- `listing::list::list_bytes` meets its contract: choosing answers the call that the bytes make, and leaves the buffers that it prints from.
+-- `listing::list::list_bytes` meets its contract: choosing answers the call that the bytes make, and the lines come from its marks and curve.
 use Prim.Native.Nat.{ℕ, _+_, _*_, _-_, _≤_}
 use mathlib.Core.Path.{_≡_, refl, sym, ap, subst, _∙_}
 use mathlib.Core.List.{List, [], _∷_}
 use native.Mathlib.Omega.{arith}
 use borrow.Author.Needs.{needs}
 use lib.ListN.{length, take, drop}
+use Rattle.refusals.specs.Refusals.{refusal}
+use Rattle.refusals.proofs.Refusals.{refusal-numbered}
 use Rattle.outline.specs.Outline.{size}
-use Rattle.outline.specs.Refusals.{refusal}
-use Rattle.outline.proofs.Refusals.{refusal-numbered}
 use Rattle.choice.specs.Answer.{Call, told}
 use Rattle.choice.proofs.Answers.{selected-solvable}
-use Rattle.text.specs.Page.{Room}
+use Rattle.text.specs.Written.{LongEnough}
 use Rattle.listing.specs.FromBuffers.{wholeText}
 use Rattle.listing.specs.Printed.{callWith, callOf, refusalText, answerText}
 use Rattle.listing.proofs.Answers.{call-made, refused-text, is-selected, selected-text}
@@ -72,12 +72,12 @@ selection-printed c =
     selected-text (call chosen) (g .0) (g .1 .0) (g .1 .1 .0) _ (sym (ap told is) ∙ chosen .choose .ensures .told-reply)
     (chosen .choose .ensures .marks-written) (chosen .choose .ensures .curve-written) ∙ ap answerText (made chosen)
 
--- its columns and its records are within the buffers
-long-enough : (c : tie.After-known-told2) →
+-- its columns are within the curve, and its records within the marks
+within-buffers : (c : tie.After-known-told2) →
     let chosen = c .before .before .before .before .before .before in
     (2 * (count chosen + 1) ≤ length (chosen .choose .last .1 .1 .1 .1 .0)) × (size (outline chosen) ≤ length (chosen .choose .last .1 .1 .1 .0))
 unfolding callWith
-long-enough c =
+within-buffers c =
     let chosen = c .before .before .before .before .before .before in
     let (g, is) = c .before .answer2 .given in
     let selection = is-selected _ (g .0) (g .1 .0) (g .1 .1 .0) _ (sym (ap told is) ∙ chosen .choose .ensures .told-reply) in
@@ -88,8 +88,8 @@ put-selection-requires : tie.Need-put-selection-requires
 put-selection-requires c κs =
     let known = c .before .before .before .before in
     let chosen = known .before .before .before .before .before .before in
-    let long = long-enough known in
-    ((search needs, long .0, long .1), subst (λ t. Room 0 t (start chosen .args .page .now)) (sym (selection-printed known)) (start chosen .pre .1))
+    let long = within-buffers known in
+    ((search needs, long .0, long .1), subst (λ t. LongEnough 0 t (start chosen .args .buffer .now)) (sym (selection-printed known)) (start chosen .pre .1))
 
 returns-2 : tie.Need-returns-2
 returns-2 c =

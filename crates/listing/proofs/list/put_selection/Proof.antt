@@ -2,7 +2,7 @@
 use mathlib.Core.List.{_++_}
 use borrow.Author.Needs.{needs}
 use Rattle.text.specs.Text.{line}
-use Rattle.text.proofs.Laying.{Left, left-starts, left-room, left-goes, left-last}
+use Rattle.text.proofs.Writing.{Left, left-starts, left-fits, left-goes, left-last}
 use Rattle.listing.specs.FromBuffers.{columnsText, taxaText}
 use Rattle.listing.proofs.list.put_selection.Statement.{statement}
 use Rattle.listing.proofs.list.put_selection.Tie as tie
@@ -10,13 +10,13 @@ use Rattle.listing.proofs.list.put_selection.Tie as tie
 put-line-requires : tie.Need-put-line-requires
 put-line-requires c κs =
     let s = c .before .before .before .before .before .before in
-    (s .pre .0 .0, left-room (line (s .args .first .now)) _ (left-starts {before = s .args .page .now} (s .pre .1)))
+    (s .pre .0 .0, left-fits (line (s .args .first .now)) _ (left-starts {before = s .args .buffer .now} (s .pre .1)))
 
--- the first line is laid
+-- the first line is written
 begun : (c : tie.After-put-line) →
     let s = c .before .before .before .before .before .before .before in
     let rest = columnsText (s .args .curve .now) (s .args .width) ++ taxaText (s .args .o .now) (s .args .marks .now) in
-    Left 0 (line (s .args .first .now) ++ rest) (s .args .page .now) (c .put-line .result) rest (c .put-line .last .0)
+    Left 0 (line (s .args .first .now) ++ rest) (s .args .buffer .now) (c .put-line .result) rest (c .put-line .last .0)
 begun c =
     let s = c .before .before .before .before .before .before .before in
     left-goes (line (s .args .first .now)) _ (left-starts (s .pre .1)) (c .put-line .ensures) (c .put-line .kept .0)
@@ -25,15 +25,15 @@ put-columns-requires : tie.Need-put-columns-requires
 put-columns-requires c κs =
     let first = c .before .before .before in
     let s = first .before .before .before .before .before .before .before in
-    (s .pre .0 .1, left-room (columnsText (s .args .curve .now) (s .args .width)) _ (begun first))
+    (s .pre .0 .1, left-fits (columnsText (s .args .curve .now) (s .args .width)) _ (begun first))
 
 -- and the columns
-columns-laid : (c : tie.After-put-columns) →
+columns-written : (c : tie.After-put-columns) →
     let s = c .before .before .before .before .before .before .before .before .before .before .before in
     let taxa = taxaText (s .args .o .now) (s .args .marks .now) in
-    Left 0 (line (s .args .first .now) ++ (columnsText (s .args .curve .now) (s .args .width) ++ taxa)) (s .args .page .now)
+    Left 0 (line (s .args .first .now) ++ (columnsText (s .args .curve .now) (s .args .width) ++ taxa)) (s .args .buffer .now)
     (c .put-columns .result) taxa (c .put-columns .last .0)
-columns-laid c =
+columns-written c =
     let first = c .before .before .before .before in
     let s = first .before .before .before .before .before .before .before in
     left-goes (columnsText (s .args .curve .now) (s .args .width)) _ (begun first) (c .put-columns .ensures) (c .put-columns .kept .0)
@@ -41,12 +41,12 @@ columns-laid c =
 put-taxa-requires : tie.Need-put-taxa-requires
 put-taxa-requires c κs =
     let columns = c .before .before .before in
-    (search needs, columns-laid columns .room)
+    (search needs, columns-written columns .fits)
 
 returns : tie.Need-returns
 returns c =
     let taxa = c .before .before in
-    left-last (columns-laid (taxa .before .before .before .before)) (taxa .put-taxa .ensures)
+    left-last (columns-written (taxa .before .before .before .before)) (taxa .put-taxa .ensures)
 
 pub put-selection-spec : {M : Type 1} → statement M
 put-selection-spec =

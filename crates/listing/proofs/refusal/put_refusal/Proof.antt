@@ -2,10 +2,10 @@
 use mathlib.Core.Path.{_≡_, sym, ap₂, subst}
 use mathlib.Core.List.{[], _∷_}
 use borrow.Author.Needs.{needs}
-use Rattle.outline.specs.Refusals.{refusal}
-use Rattle.text.specs.Page.{Room}
+use Rattle.refusals.specs.Refusals.{refusal}
+use Rattle.text.specs.Written.{LongEnough}
 use Rattle.text.specs.Text.{others}
-use Rattle.text.proofs.Laying.{Left, left-starts, left-goes, left-last}
+use Rattle.text.proofs.Writing.{Left, left-starts, left-goes, left-last}
 use Rattle.listing.specs.Printed.{refusalText}
 use Rattle.listing.proofs.refusal.put_refusal.Statement.{statement}
 use Rattle.listing.proofs.refusal.put_refusal.Tie as tie
@@ -14,11 +14,11 @@ put-text-requires : tie.Need-put-text-requires
 unfolding refusalText
 put-text-requires c κs = search needs
 
--- the word is laid
+-- the word is written
 begun : (c : tie.After-put-text) →
     let s = c .before .before .before .before .before .before in
     let t = refusal (s .args .refusal) in
-    Left 0 (refusalText t) (s .args .page .now) (c .put-text .result) (others (t .number ∷ t .place ∷ [])) (c .put-text .last .0)
+    Left 0 (refusalText t) (s .args .buffer .now) (c .put-text .result) (others (t .number ∷ t .place ∷ [])) (c .put-text .last .0)
 unfolding refusalText
 begun c = left-goes _ _ (left-starts (c .before .before .before .before .before .before .pre)) (c .put-text .ensures) (c .put-text .kept .0)
 
@@ -31,7 +31,7 @@ told c = ap₂ (λ n p. others (n ∷ p ∷ [])) (c .before .number-of .ensures)
 put-others-requires : tie.Need-put-others-requires
 put-others-requires c κs =
     let word = c .before .before .before .before in
-    subst (λ t. Room (word .put-text .result) t (word .put-text .last .0)) (sym (told (word .before .before .before))) (begun word .room)
+    subst (λ t. LongEnough (word .put-text .result) t (word .put-text .last .0)) (sym (told (word .before .before .before))) (begun word .fits)
 
 returns : tie.Need-returns
 returns c =

@@ -2,21 +2,21 @@
 use borrow.Author.Needs.{needs}
 use borrow.Author.Tests.{eq-eqb, ne-eqb}
 use Rattle.diversity.specs.Diversity.{chosen}
-use Rattle.text.proofs.Laying.{laid-none}
+use Rattle.text.proofs.Writing.{written-nothing}
 use Rattle.listing.specs.FromBuffers.{taxonText}
 use Rattle.listing.proofs.taxa.put_taxon.Statement.{statement}
 use Rattle.listing.proofs.taxa.put_taxon.Tie as tie
 
 returns : tie.Need-returns
 unfolding taxonText chosen
-returns c = rw (ne-eqb _ _ (c .if1 .taken)) (laid-none _ _)
+returns c = rw (ne-eqb _ _ (c .if1 .taken)) (written-nothing _ _)
 
 put-line-requires : tie.Need-put-line-requires
 unfolding taxonText chosen
 put-line-requires c κs =
     let else = c .before .before .before .before in
-    let room = rw (eq-eqb _ _ (else .if1 .left)) at (else .before .before .before .before .before .pre .2) in
-    (search needs, rw (c .before .before .before .plate-of .ensures, c .before .before .price-of .ensures) room)
+    let fits = rw (eq-eqb _ _ (else .if1 .left)) at (else .before .before .before .before .before .pre .2) in
+    (search needs, rw (c .before .before .before .plate-of .ensures, c .before .before .price-of .ensures) fits)
 
 returns-2 : tie.Need-returns-2
 unfolding taxonText chosen

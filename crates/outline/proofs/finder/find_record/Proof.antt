@@ -1,8 +1,8 @@
 -- `outline::finder::find_record` meets its contract.
 use borrow.Author.Needs.{needs}
+use Rattle.refusals.proofs.Refusals.{refusal-not-zero}
 use Rattle.outline.specs.Outline.{records}
 use Rattle.outline.specs.Refusals.{foundAt}
-use Rattle.outline.proofs.Refusals.{refusal-not-zero}
 use Rattle.outline.proofs.finder.find_record.Statement.{statement}
 use Rattle.outline.proofs.finder.find_record.Tie as tie
 

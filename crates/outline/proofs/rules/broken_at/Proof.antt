@@ -2,9 +2,8 @@
 use Prim.Native.Nat.{_+_, _-_}
 use mathlib.Core.Path.{_∙_, sym}
 use borrow.Author.Needs.{needs}
-use Rattle.outline.specs.Outline.{records}
+use Rattle.lists.proofs.Walk.{Seeking, seeking-starts, seeking-goes, seeking-finds, seeking-ends}
 use Rattle.outline.specs.Inner.{breaks}
-use Rattle.outline.proofs.Walk.{Seeking, seeking-starts, seeking-goes, seeking-finds, seeking-ends}
 use Rattle.outline.proofs.rules.broken_at.Statement.{statement}
 use Rattle.outline.proofs.rules.broken_at.Tie as tie
 
@@ -15,7 +14,6 @@ abbrev μ-loop : tie.MeasureT-loop
 μ-loop o counts rule n r₀ r = n + 1 - r
 
 returns : tie.Need-returns Inv-loop μ-loop
-unfolding records
 returns c =
     let turn = c .before .before in
     seeking-finds _ _ (turn .before .loop .inv) (turn .loop-test .taken) (sym (c .before .is-broken .ensures) ∙ c .if1 .taken)
@@ -26,7 +24,6 @@ loop-again c =
     seeking-goes _ _ (turn .before .loop .inv) (turn .loop-test .taken) (sym (c .before .is-broken .ensures) ∙ c .if1 .left)
 
 returns-2 : tie.Need-returns-2 Inv-loop μ-loop
-unfolding records
 returns-2 c = seeking-ends _ _ (c .before .loop .inv) (c .loop-test .left)
 
 pub broken-at-spec : {M : Type 1} → statement M

@@ -16,4 +16,4 @@ returns-2 c = rw (le-ltb (c .before .args .link) numbers (omega (arith, c .if1 .
 
 pub count-link-spec : {M : Type 1} → statement M
 count-link-spec =
-    tie.close (tie.spec (λ c. search needs) (λ c. search needs) (λ c. search needs) returns returns-2)
+    tie.close (tie.spec (λ c. search needs) (λ c. search needs) (λ c. search needs) (λ c. search needs) returns returns-2)

@@ -1,8 +1,8 @@
 -- `outline::rules::has_plate` meets its contract.
 use borrow.Author.Needs.{needs}
 use borrow.Author.Tests.{eq-eqb, ne-eqb}
+use Rattle.lists.proofs.Bools.{and-false, and-true}
 use Rattle.outline.specs.Refusals.{hasPlate}
-use Rattle.outline.proofs.Bools.{and-false, and-true}
 use Rattle.outline.proofs.rules.has_plate.Statement.{statement}
 use Rattle.outline.proofs.rules.has_plate.Tie as tie
 

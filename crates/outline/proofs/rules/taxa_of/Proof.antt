@@ -2,11 +2,11 @@
 use Prim.Native.Nat.{_+_, _-_}
 use native.Mathlib.Omega.{arith}
 use borrow.Author.Needs.{needs}
-use Rattle.outline.specs.Lists.{one}
+use Rattle.lists.specs.Lists.{one}
+use Rattle.lists.proofs.Bools.{byte-one, one-le}
+use Rattle.lists.proofs.Walk.{Summing, summing-starts, summing-goes, summing-ends}
 use Rattle.outline.specs.Outline.{isTaxon, records}
 use Rattle.outline.specs.Refusals.{taxaIn, taxa}
-use Rattle.outline.proofs.Bools.{byte-one, one-le}
-use Rattle.outline.proofs.Walk.{Summing, summing-starts, summing-goes, summing-ends}
 use Rattle.outline.proofs.rules.taxa_of.Statement.{statement}
 use Rattle.outline.proofs.rules.taxa_of.Tie as tie
 

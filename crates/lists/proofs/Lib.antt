@@ -1,0 +1,4 @@
+-- Laws of these functions, and invariants of the loops that compute them.
+pub mod Bools
+pub mod Buffers
+pub mod Walk

@@ -1,0 +1,88 @@
+-- Writing a text piece by piece, by what is left of it.
+use Prim.Native.Nat.{ℕ, _+_, _≤_, _<_}
+use mathlib.Core.Path.{_≡_, refl, sym, ap, _∙_}
+use mathlib.Core.List.{List, [], _∷_, _++_, append-assoc}
+use native.Mathlib.Numerals.{add-one}
+use native.Mathlib.Omega.{arith}
+use lib.ListN.{length, getD, take, drop, set, length-append, take-append-drop, drop-of-length-le, length-set}
+use lib.Seq.{drop-cons, set-split, take-at, drop-at, drop-drop, length-take-le}
+use Rattle.lists.specs.Lists.{over}
+use Rattle.text.specs.Written.{overAt, LongEnough, Written}
+
+-- one byte
+pub written-byte : (at b : ℕ) (buffer : List ℕ) → at < length buffer → Written at (b ∷ []) buffer (set buffer at b) (at + 1)
+unfolding over overAt
+written-byte at b buffer h = record { buffer-is = rw (drop-drop 1 at buffer, add-one) (set-split buffer at b h); next-is = refl }
+
+over-nothing : (at : ℕ) (buffer : List ℕ) → overAt at [] buffer ≡ buffer
+unfolding over overAt
+over-nothing at buffer = take-append-drop at buffer
+
+pub written-nothing : (at : ℕ) (buffer : List ℕ) → Written at [] buffer buffer at
+written-nothing at buffer = record { buffer-is = sym (over-nothing at buffer); next-is = omega arith }
+
+-- a text that begins a buffer is within it
+pub written-within : {text before after : List ℕ} {next : ℕ} → Written 0 text before after next → next ≤ length after
+unfolding over overAt
+written-within d = omega (arith, d .next-is, simp length-append at (ap length (d .buffer-is)))
+
+-- two texts, one after the other
+over-both : (at : ℕ) (s t buffer : List ℕ) → at ≤ length buffer → overAt (at + length s) t (overAt at s buffer) ≡ overAt at (s ++ t) buffer
+unfolding over overAt
+over-both at s t buffer h =
+    let front = take at buffer ++ s in
+    let rest = drop at buffer in
+    let back = drop (length s) rest in
+    let long : length front ≡ at + length s = length-append (take at buffer) s ∙ ap (λ k. k + length s) (length-take-le at buffer h) in
+    let whole : take at buffer ++ (s ++ back) ≡ front ++ back = sym (append-assoc (take at buffer) s back) in
+    rw (whole, take-at front back _ long, drop-at front back _ long, drop-drop (length t) (length s) rest, ← length-append s t) (simp append-assoc)
+
+-- the rest, written at place `to` of the buffer after, completes the whole, which begins at place `at` of the buffer before
+pub record Left (at : ℕ) (whole before : List ℕ) (to : ℕ) (rest after : List ℕ) : Type 0 where
+  pub same-buffer : overAt to rest after ≡ overAt at whole before
+  pub same-end : to + length rest ≡ at + length whole
+  pub same-length : length after ≡ length before
+  pub fits : LongEnough to rest after
+
+pub left-starts : {at : ℕ} {whole before : List ℕ} → LongEnough at whole before → Left at whole before at whole before
+left-starts h = record { same-buffer = refl; same-end = refl; same-length = refl; fits = h }
+
+pub left-ends : {at to : ℕ} {whole before after : List ℕ} → Left at whole before to [] after → Written at whole before after to
+left-ends {at} {to} {whole} {before} {after} l =
+    record { buffer-is = sym (over-nothing to after) ∙ l .same-buffer; next-is = omega (arith, l .same-end) }
+
+-- all that is left is written
+pub left-last : {at to next : ℕ} {whole before rest after exit : List ℕ} → Left at whole before to rest after → Written to rest after exit next
+    → Written at whole before exit next
+left-last l d = record { buffer-is = d .buffer-is ∙ l .same-buffer; next-is = d .next-is ∙ l .same-end }
+
+-- a piece is written of what is left
+module _ {at to : ℕ} {whole before after : List ℕ} (text rest : List ℕ) (l : Left at whole before to (text ++ rest) after) where
+  pub left-fits : LongEnough to text after
+  left-fits = omega (arith, l .fits, length-append text rest)
+
+  pub left-goes : {next : ℕ} {again : List ℕ} → Written to text after again next → length again ≡ length after
+      → Left at whole before next rest again
+  left-goes {next} {again} d same =
+      record {
+        same-buffer = rw (d .buffer-is, d .next-is, over-both to text rest after (omega (arith, left-fits))) (l .same-buffer);
+        same-end = omega (arith, d .next-is, l .same-end, length-append text rest);
+        same-length = same ∙ l .same-length;
+        fits = omega (arith, d .next-is, l .fits, length-append text rest);
+      }
+
+-- a text that is copied byte by byte
+pub copied-goes : {at i : ℕ} {text before after : List ℕ} → i < length text
+    → Left at text before (at + i) (drop i text) after → Left at text before (at + (i + 1)) (drop (i + 1) text) (set after (at + i) (getD text i 0))
+copied-goes {at} {i} {text} {before} {after} h l =
+    let b = getD text i 0 in
+    let rest = drop (i + 1) text in
+    let split : drop i text ≡ (b ∷ []) ++ rest = rw add-one (drop-cons text i 0 h) in
+    let place : at + i + 1 ≡ at + (i + 1) = omega arith in
+    let l′ = rw split at l in
+    let fits : at + i < length after = omega (arith, left-fits (b ∷ []) rest l′) in
+    rw (← place) (left-goes (b ∷ []) rest l′ (written-byte (at + i) b after fits) (length-set after (at + i) b))
+
+pub copied-ends : {at i to : ℕ} {text before after : List ℕ} → length text ≤ i → Left at text before to (drop i text) after
+    → Written at text before after to
+copied-ends {at} {i} {to} {text} h l = left-ends (rw (drop-of-length-le text h) at l)
