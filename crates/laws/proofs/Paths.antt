@@ -1,8 +1,8 @@
 -- Where the branches that count lie: on the way up from a chosen record, and between two chosen records.
 use Prim.Native.Nat.{ℕ, zero, suc, _+_, _≤_, _<_}
 use mathlib.Core.Path.{_≡_, refl, sym, ap, ap₂, subst, _∙_}
-use mathlib.Core.Logic.{inl, inr, _↔_, Iff·trans, Iff·not}
-use mathlib.Core.Bool.{Bool, true, false, _&&_, not, false≢true}
+use mathlib.Core.Logic.{inl, inr, _↔_}
+use mathlib.Core.Bool.{Bool, true, false, _&&_, not}
 use mathlib.Core.List.{List}
 use native.Mathlib.Omega.{arith}
 use lib.Dec.{eqb}
@@ -10,6 +10,7 @@ use borrow.Author.Tests.{eqb-true, eqb-false, eq-eqb, not-true}
 use Rattle.lists.specs.Lists.{one, anywhere, total, lowest}
 use Rattle.lists.proofs.Bools.{both-true}
 use Rattle.lists.proofs.Walk.{anywhere-lowest, lowest-holds}
+use Rattle.refusals.proofs.Tests.{decides-not}
 use Rattle.outline.specs.Outline.{size, next, first, records}
 use Rattle.outline.specs.Inner.{IsRecord}
 use Rattle.outline.proofs.Kept.{Linked}
@@ -20,10 +21,6 @@ use Rattle.laws.proofs.Sums.{positive-some, positive-true, anywhere-cou
 use Rattle.laws.proofs.Forest.{tree-step}
 use Rattle.laws.proofs.Measures.{chosenIn}
 use Rattle.laws.proofs.ByTree.{anywhere-clade}
-
-not-holds : (b : Bool) → not b ≡ true ↔ ¬ (b ≡ true)
-not-holds true = (λ e. absurd (false≢true e), λ n. absurd (n refl))
-not-holds false = (λ e f. false≢true f, λ n. refl)
 
 records-some : (o : List ℕ) (p : ℕ → Bool) → anywhere p (records o) ≡ true ↔ (t : ℕ) × IsRecord o t × (p t ≡ true)
 unfolding records
@@ -139,7 +136,7 @@ module _ (o : List ℕ) (linked : Linked o) where
         out u = chosen s u && not (anywhere (eqb u) (clade o r))
 
         outside : (u : ℕ) → not (anywhere (eqb u) (clade o r)) ≡ true ↔ ¬ OnWay o u r
-        outside u = Iff·trans (not-holds _) (Iff·not (in-clade u))
+        outside u = decides-not (in-clade u)
 
     -- in unrooted diversity exactly if it lies between two chosen records
     pub unrooted-between : (within o s r && elsewhere o s r) ≡ true ↔ (t u : ℕ) × IsChosen o s t × IsChosen o s u × Between o t u r

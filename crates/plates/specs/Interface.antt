@@ -2,7 +2,7 @@
 use Prim.Native.Nat.{ℕ}
 use mathlib.Core.Path.{_≡_}
 use mathlib.Core.List.{List}
-use lib.ListN.{getD}
+use lib.ListN.{length, getD}
 use Rattle.choice.specs.Answer.{Call, Reply, Answered}
 
 -- the six numbers that stand in `answer`
@@ -16,7 +16,8 @@ replyIn answer = record {
   spare = getD answer 5 0;
 }
 
--- choosing gives the first of the six, and a call is answered by them as `choose` answers it
+-- `answer` has these six and no more, choosing gives the first of them, and a call is answered by them as `choose` answers it
 pub record Chosen (c : Call) (number : ℕ) (answer marks curve work : List ℕ) : Type 0 where
+  pub answer-long : length answer ≡ 6
   pub number-given : number ≡ replyIn answer .number
   pub answered : Answered c (replyIn answer) marks curve work

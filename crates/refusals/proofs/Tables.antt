@@ -55,8 +55,8 @@ no-more (here h) = (refl, h)
 
 pub gives-whole : (n : ℕ) {C : Type 0} {b : Bool} → Decides C b → Gives (whole (suc n) C ∷ []) (row (suc n) b)
 gives-whole n {C} {b = true} d =
-    gives-first {n = suc n} (omega arith) (here {r = whole (suc n) C} (refl, d .sure refl)) (λ m q h. let k = no-more h in (k .0, k .1 .0))
-gives-whole n {C} {b = false} d = gives-none (fails {r = whole (suc n) C} (λ p (e, h). d .never refl h) end)
+    gives-first {n = suc n} (omega arith) (here {r = whole (suc n) C} (refl, d .0 refl)) (λ m q h. let k = no-more h in (k .0, k .1 .0))
+gives-whole n {C} {b = false} d = gives-none (fails {r = whole (suc n) C} (λ p (e, h). false≢true (d .1 h)) end)
 
 -- there is one lowest record
 lowest-one : {size : ℕ} {holds : ℕ → Bool} {p q : ℕ} → LowestAt size holds p → LowestAt size holds q → q ≡ p

@@ -1,6 +1,6 @@
 -- `plates::plates_choose` meets its contract.
 use Prim.Native.Nat.{_≤_}
-use mathlib.Core.Path.{_≡_, sym, ap, ap₂, _∙_}
+use mathlib.Core.Path.{_≡_, refl, sym, ap, ap₂, _∙_}
 use native.Mathlib.Omega.{arith}
 use borrow.Author.Needs.{needs}
 use Rattle.refusals.specs.Refusals.{tells, refusal}
@@ -31,7 +31,7 @@ returns c =
     let d = c .before .before in
     let h = d .before .before .before .before .before .before .before .before in
     let e = sym (ap told (d .diversity .given .1)) in
-    answered-chosen (h .choose .ensures) (ap (λ (r : Reply). r .number) e) e
+    answered-chosen (h .choose .ensures) refl (ap (λ (r : Reply). r .number) e) e
 
 returns-2 : tie.Need-returns-2
 returns-2 c =
@@ -39,7 +39,7 @@ returns-2 c =
     let f = n .before .before in
     let e = refusal-told f in
     let number = n .number-of .ensures in
-    answered-chosen (chosen f .choose .ensures) (number ∙ ap (λ (r : Reply). r .number) e)
+    answered-chosen (chosen f .choose .ensures) refl (number ∙ ap (λ (r : Reply). r .number) e)
     (ap₂ (λ m p. refused (tells m p)) number (c .before .place-of .ensures) ∙ e)
 
 pub plates-choose-spec : {M : Type 1} → statement M
