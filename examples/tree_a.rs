@@ -1,20 +1,15 @@
-//! Builds tree A, chooses its plates for 5 quarters, and prints the choice, the curve and the
-//! plates.
+//! Reads tree A from text, chooses its plates for 5 quarters, and prints the choice, the curve and
+//! the plates.
 
-use plates::{choose, Tree, Way};
+use plates::{choose, Outline, Way};
 use std::error::Error;
 
 fn main() -> Result<(), Box<dyn Error>> {
-    // a group: length, members; a taxon: plate, length, price
-    let tree = Tree::group(
-        0,
-        [
-            Tree::group(3, [Tree::taxon(11, 4, 3), Tree::taxon(12, 2, 1)]),
-            Tree::taxon(13, 5, 2),
-        ],
-    );
+    // plate, price
+    let prices = [(11, 3), (12, 1), (13, 2)];
+    let outline = Outline::from_newick("((11:4,12:2):3,13:5);", prices)?;
     let (count, way) = (5, Way::Rooted);
-    let choice = choose(&tree.outline()?, count, way)?;
+    let choice = choose(&outline, count, way)?;
 
     let (diversity, cost, taxa) = (choice.diversity(), choice.cost(), choice.taxa());
     println!("{count} {} {diversity} {cost} {}", way as u32, taxa.len());

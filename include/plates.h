@@ -7,11 +7,12 @@
  * reached. It is not a heuristic: among all the sets that fit, no other is better. In the literature the problem is called
  * phylogenetic diversity under a budget (Pardi and Goldman, Systematic Biology 56(3), 2007).
  *
+ *     plates_read     the outline of a tree in Newick form
  *     plates_check    whether an outline is sound, and if not what is wrong and where
  *     plates_find     the record of the taxon that has a given plate
  *     plates_choose   the best taxa for a page count
  *
- * Link with libplates.a (-lplates). It needs nothing but memset, which every C library has.
+ * Link with libplates.a (-lplates). It needs nothing but memcpy and memset, which every C library has.
  *
  * Words
  *
@@ -67,6 +68,27 @@
  * plates_put_record writes such a record.
  *
  *
+ * TREES AS TEXT
+ *
+ * plates_read makes the outline from a text in Newick form, so that nobody has to number records. Tree A is
+ *
+ *     ((11:4,12:2):3,13:5);
+ *
+ * A part is a taxon or a group. A taxon is written as its plate, a group as the list of its members in round brackets, one part
+ * or more, with commas between. After a part a colon and the length of its branch may stand; without them the length is 0. A
+ * semicolon ends the tree. Plates and lengths are numbers of 1 to 9 digits side by side. Blanks, tabs and line ends (bytes 32,
+ * 9, 10 and 13) may stand anywhere but inside a number, also behind the semicolon. Nothing else is accepted: no names, no
+ * labels of groups, no comments, no points, no signs, and no byte 0, so the length of a C string is its strlen. A text has at
+ * most 16,384 bytes.
+ *
+ * The prices come beside the text as pairs of numbers, plate then price, in any order: exactly one pair for each taxon, and
+ * none for other plates. For tree A:
+ *
+ *     11 3   12 1   13 2
+ *
+ * Records are numbered as their parts begin in the text: the root first, then its first member with all below it, and so on.
+ *
+ *
  * WHAT IS BEST
  *
  * The diversity of a set of taxa is a sum of branch lengths, each branch counted once:
@@ -93,30 +115,32 @@
  *
  * WHAT THE CALLER HAS TO KEEP
  *
- * marks, curve and work are lent space: buffers that a choice is written to, and that a refusal leaves as they were. answer and
- * place are no lent space. They carry the numbers that a call gives, so they are written in any case, on a refusal too.
+ * marks, curve and work are lent space, and so is the outline of plates_read: buffers that a result is written to, and that a
+ * refusal leaves as they were. answer and place are no lent space. They carry the numbers that a call gives, so they are
+ * written in any case, on a refusal too.
  *
  * - No pointer is null, not even where the length is 0, and each points to at least as many elements as its length says.
- *   Lengths are numbers of elements: outline_len and marks_len in bytes, curve_len in uint32_t, work_len in uint64_t.
- *   answer has 6 elements, place has 1.
- * - Each pointer is aligned as its element type asks. outline and marks may begin at any byte.
- * - Of marks, curve, work, answer and place none overlaps another one or the outline.
- * - While a call runs, nobody else writes the outline, and nobody else reads or writes any of those five.
+ *   Lengths are numbers of elements: text_len, outline_len and marks_len in bytes, pairs_len and curve_len in uint32_t,
+ *   work_len in uint64_t. The answer of plates_choose has 6 elements, that of plates_read has 3, place has 1.
+ * - Each pointer is aligned as its element type asks. text, outline and marks may begin at any byte.
+ * - What a call writes (lent space, answer, place) overlaps nothing else that it is handed.
+ * - While a call runs, nobody else writes what it is handed, and nobody else reads what it writes.
  *
- * What stands in the five before a call makes no difference; they need not be initialised.
+ * What stands before a call where it writes makes no difference; that need not be initialised.
  *
  *
  * WHAT THE LIBRARY KEEPS
  *
- * - Any bytes may be handed over as an outline, and any numbers as count, way and lengths: what is not sound is refused, and a
- *   refusal of the table below is the only way for a call to fail.
+ * - Any bytes may be handed over as an outline or a text, and any numbers as pairs, count, way and lengths: what is not sound
+ *   is refused, and a refusal of the table below is the only way for a call to fail.
  * - Nothing is allocated, no file is touched, and there is no global state. Calls on different buffers may run at the same
  *   time, and may share an outline.
- * - Nothing is written but what is named at each function. The outline is never written.
+ * - Nothing is written but what is named at each function. Only plates_read writes an outline.
  * - The time of a call is bounded. That of plates_choose grows linearly with the count; checking and finding take at most a few
- *   steps for each pair of records.
+ *   steps for each pair of records, and reading also for each byte of the text and for each record with each pair of numbers.
  * - Little stack is used, since the table stands in work: calls nest no deeper than there are records, which takes less than
- *   64 KB on x86-64 for the deepest outlines.
+ *   64 KB on x86-64 for the deepest outlines. Reading a text takes less than 70 KB, however deep it is: its calls nest for 127
+ *   records, and no deeper.
  */
 #ifndef PLATES_H
 #define PLATES_H
@@ -141,6 +165,7 @@ extern "C" {
 #define PLATES_MOST_COUNT 4096
 #define PLATES_MOST_LENGTH 1000000
 #define PLATES_MOST_PRICE 65535
+#define PLATES_MOST_TEXT_LEN 16384
 
 /*
  * How many elements an outline has, and how many each buffer has to have. They are constant expressions where their arguments
@@ -148,13 +173,15 @@ extern "C" {
  * whatever the buffers are.
  *
  *     outline   bytes       PLATES_OUTLINE_LEN(records)
+ *     pairs     uint32_t    PLATES_PAIRS_LEN(taxa)
  *     marks     bytes       PLATES_MARKS_LEN(records)
  *     curve     uint32_t    PLATES_CURVE_LEN(count)
  *     work      uint64_t    PLATES_WORK_LEN(records, count)
  *
- * answer is no buffer, and always has PLATES_ANSWER_LEN uint32_t: see below.
+ * answer is no buffer, and always has PLATES_ANSWER_LEN uint32_t, for plates_read PLATES_READ_ANSWER_LEN: see below.
  */
 #define PLATES_OUTLINE_LEN(records) (PLATES_CAST_(size_t, PLATES_RECORD_BYTES) * PLATES_CAST_(size_t, records))
+#define PLATES_PAIRS_LEN(taxa) (PLATES_CAST_(size_t, 2) * PLATES_CAST_(size_t, taxa))
 #define PLATES_MARKS_LEN(records) PLATES_CAST_(size_t, records)
 #define PLATES_CURVE_LEN(count) (PLATES_CAST_(size_t, 2) * (PLATES_CAST_(size_t, count) + 1))
 #define PLATES_WORK_LEN(records, count) \
@@ -163,6 +190,7 @@ extern "C" {
 /* The same for the largest outline and the largest count: enough for every call. The most work is 16,912,416 bytes, more than a
  * usual stack has. */
 #define PLATES_MOST_OUTLINE_LEN PLATES_OUTLINE_LEN(PLATES_MOST_RECORDS)
+#define PLATES_MOST_PAIRS_LEN PLATES_PAIRS_LEN(PLATES_MOST_TAXA)
 #define PLATES_MOST_MARKS_LEN PLATES_MARKS_LEN(PLATES_MOST_RECORDS)
 #define PLATES_MOST_CURVE_LEN PLATES_CURVE_LEN(PLATES_MOST_COUNT)
 #define PLATES_MOST_WORK_LEN PLATES_WORK_LEN(PLATES_MOST_RECORDS, PLATES_MOST_COUNT)
@@ -174,10 +202,11 @@ enum plates_way {
 };
 
 /*
- * What plates_check and plates_choose give: PLATES_OK or a refusal. Refusals are judged in this order, and the first that holds
- * is given. A refusal has a place: the number of the record at fault, from 1, or 0 where no one record is.
+ * What plates_check, plates_choose and plates_read give: PLATES_OK or a refusal. Refusals are judged in an order, that of their
+ * numbers unless the function says another, and the first that holds is given. A refusal has a place: the number of the record
+ * at fault, from 1, or 0 where no one record is.
  *
- * Later versions add refusals, with numbers from 10 on. So treat any number other than PLATES_OK as a refusal, also one that is
+ * Later versions add refusals, with numbers from 12 on. So treat any number other than PLATES_OK as a refusal, also one that is
  * not named here: give a switch over these a default.
  */
 enum plates_refusal {
@@ -187,7 +216,7 @@ enum plates_refusal {
     PLATES_UNKNOWN_WAY = 1,
     /* The outline's length is 0 or no multiple of 16; place 0. */
     PLATES_PARTIAL_RECORD = 2,
-    /* The outline has more than 127 records; place 0. */
+    /* The outline, or the tree of the text, has more than 127 records; place 0. */
     PLATES_TOO_MANY_RECORDS = 3,
     /* The page count is above 4,096; place 0. */
     PLATES_COUNT_TOO_LARGE = 4,
@@ -200,8 +229,14 @@ enum plates_refusal {
     PLATES_TOO_MANY_TAXA = 7,
     /* An earlier taxon has the same plate; place is the lowest such record, so the later of the two. */
     PLATES_DUPLICATE_PLATE = 8,
-    /* marks, curve or work is shorter than PLATES_MARKS_LEN, PLATES_CURVE_LEN or PLATES_WORK_LEN says; place 0. */
-    PLATES_BUFFER_TOO_SHORT = 9
+    /* marks, curve or work is shorter than PLATES_MARKS_LEN, PLATES_CURVE_LEN or PLATES_WORK_LEN says, or the outline of
+     * plates_read than PLATES_OUTLINE_LEN says; place 0. */
+    PLATES_BUFFER_TOO_SHORT = 9,
+    /* The text is no tree in the form above, or has more than 16,384 bytes; place 0. */
+    PLATES_BAD_TEXT = 10,
+    /* A taxon of the text has no pair or more than one, a pair's plate is no taxon's, or the count of pair numbers is odd;
+     * place 0. */
+    PLATES_BAD_PAIRS = 11
 };
 
 /* What stands where in the answer of plates_choose. */
@@ -221,6 +256,31 @@ enum plates_answer {
     /* The number of elements. */
     PLATES_ANSWER_LEN = 6
 };
+
+/* The same for plates_read, whose number and place stand where those of plates_choose do. */
+enum plates_read_answer {
+    /* How many records the outline has; 0 for a refusal. */
+    PLATES_READ_ANSWER_RECORDS = 2,
+    /* The number of elements. */
+    PLATES_READ_ANSWER_LEN = 3
+};
+
+/*
+ * Reads a tree from text, with its prices beside it, and writes its outline.
+ *
+ * Gives PLATES_OK, or the first of refusals 10, 3, 11, 9, 5, 7 and 8 that holds, in this order (the links are made here, so 6
+ * does not arise), and writes all three elements of answer in any case. So a text of more than 127 records gets 3 only if all of
+ * it is well formed. The place of 5 and 8 is the number that the record has in the text's order.
+ *
+ * On PLATES_OK, for N records, the first PLATES_OUTLINE_LEN(N) bytes of outline are an outline that plates_check accepts, and
+ * the bytes beyond stay as they were. On a refusal all of outline stays as it was. An outline of PLATES_MOST_OUTLINE_LEN bytes
+ * has room for every tree.
+ *
+ * Pairs are matched by number alone. So a taxon with plate 0 is a case of 5 if there is one pair for 0, and of 11 otherwise;
+ * two taxa with one plate are a case of 8 if that plate has one pair, and of 11 otherwise.
+ */
+uint32_t plates_read(const uint8_t *text, size_t text_len, const uint32_t *pairs, size_t pairs_len,
+                     uint8_t *outline, size_t outline_len, uint32_t answer[3]);
 
 /*
  * Whether an outline is sound.

@@ -1,4 +1,5 @@
-//! Measures `plates_choose` beside clearing `work`, IQ-TREE 2, GLPK and two tables in Rust, and prints the times in Markdown.
+//! Measures `plates_choose` beside clearing `work`, IQ-TREE 2, GLPK and two tables in Rust, and `plates_read` beside a plain
+//! reader in Rust, and prints the times in Markdown.
 
 mod case;
 mod glpk;
@@ -6,6 +7,8 @@ mod instances;
 mod iqtree;
 mod machine;
 mod plain;
+mod reader;
+mod reading;
 mod report;
 mod scratch;
 mod times;
@@ -13,6 +16,7 @@ mod tree;
 
 use case::{Buffers, Case};
 use instances::COUNT;
+use reading::Reading;
 use report::Missing;
 use scratch::Scratch;
 use std::path::Path;
@@ -75,7 +79,9 @@ fn run(plan: &Plan) -> Result<(), String> {
     if !plan.quick {
         run_slow_peers(&mut groups, &mut buffers, scratch.path())?;
     }
+    let readings = measure_readings(plan);
     print(plan, &groups, &sizes);
+    report::readings(&readings);
     Ok(())
 }
 
@@ -126,6 +132,16 @@ fn measure(
         }
     }
     Ok(())
+}
+
+fn measure_readings(plan: &Plan) -> Vec<Reading> {
+    let mut readings = reading::all();
+    for _ in 0..plan.rounds {
+        for reading in &mut readings {
+            (0..plan.calls).for_each(|_| reading.measure());
+        }
+    }
+    readings
 }
 
 /// The peers that may be slow, after the rounds and only on the largest count of each outline and way.

@@ -2,6 +2,7 @@
 
 use crate::case::Case;
 use crate::glpk;
+use crate::reading::{agreement as agreement_of, Reading};
 use crate::times::{digits, microseconds, milliseconds, Times};
 
 /// What stands in the table for a peer that has no time.
@@ -34,6 +35,13 @@ Milliseconds for 64 taxa: 127 records (star: 65), count 4,096 (case G: 4,095).
 const BY_COUNT: &str = "\
 Shortest times of plates; a column is one count from 0 to the given one. The largest count of case G is 4,095. The last
 four are the ratios of the medians of IQ-TREE's own figure and of plates, with a dash where IQ-TREE's is 0 or missing.
+";
+
+const READING: &str = "\
+Microseconds. The plain reader is Rust and goes over the text once, with a stack of the lists that are open; it gives the same
+refusals, and the check of the outline is that of plates. Both are called in turn; the ratio is that of the medians. The first
+text has lengths and no blanks, the others are as long as a text can be. One of more than 127 records is refused with 3, after
+all of it is read.
 ";
 
 const COUNTS: [&str; 4] = ["64", "256", "1,024", "4,096"];
@@ -231,4 +239,42 @@ fn lowest(cases: &[&Case], figure: impl Fn(&Case) -> Option<f64>) -> Option<(f64
     let named = figures?.into_iter().zip(cases);
     let (least, case) = named.min_by(|(one, _), (other, _)| one.total_cmp(other))?;
     Some((least, case.name.clone()))
+}
+
+pub fn readings(readings: &[Reading]) {
+    println!("### Reading texts\n\n{READING}");
+    let head = words([
+        "text",
+        "bytes",
+        "records",
+        "number given",
+        "plates shortest",
+        "plates median",
+        "plain shortest",
+        "plain median",
+        "plates / plain",
+    ]);
+    let rows: Vec<_> = readings.iter().map(reading_row).collect();
+    print_table(&head, &rows);
+    let [compared, differing] = agreement_of(readings);
+    println!("Answers of the plain reader compared with those of plates: {compared}, differing: {differing}.\n");
+}
+
+fn reading_row(reading: &Reading) -> Vec<String> {
+    let (plates, plain) = (&reading.plates, &reading.plain);
+    let times = [
+        plates.shortest(),
+        plates.median(),
+        plain.shortest(),
+        plain.median(),
+    ];
+    let mut row = vec![
+        reading.name.to_string(),
+        reading.text.len().to_string(),
+        reading.records.to_string(),
+        reading.number.to_string(),
+    ];
+    row.extend(times.map(|time| time.map_or(String::new(), microseconds)));
+    row.push(ratio(plates.median(), plain.median()));
+    row
 }

@@ -7,12 +7,13 @@
 //! among all the sets that fit, no other is better. In the literature the problem is called
 //! phylogenetic diversity under a budget (Pardi and Goldman, Systematic Biology 56(3), 2007).
 //!
-//! A [`Tree`] is built by nesting and makes an [`Outline`], which is checked once. [`choose`], also
-//! a method of the outline, gives a [`Choice`] for an outline, a page count and a [`Way`]. What is
-//! wrong with an outline or a page count is told as a [`Refusal`].
+//! An [`Outline`] is a tree that has been checked. It is read from text in Newick form with
+//! [`Outline::from_newick`], or made from a [`Tree`], which is built by nesting. [`choose`], also a
+//! method of the outline, gives a [`Choice`] for an outline, a page count and a [`Way`]. What is
+//! wrong with a text, an outline or a page count is told as a [`Refusal`].
 //!
 //! ```
-//! use plates::{Tree, Way};
+//! use plates::{Outline, Tree, Way};
 //!
 //! // Branch lengths on the tree, then each taxon's plate and its price:
 //! //
@@ -24,6 +25,10 @@
 //!     Tree::taxon(13, 5, 2),
 //! ])
 //! .outline()?;
+//!
+//! // The same as text, with plate and price of each taxon.
+//! let prices = [(11, 3), (12, 1), (13, 2)];
+//! assert_eq!(Outline::from_newick("((11:4,12:2):3,13:5);", prices)?, outline);
 //!
 //! let choice = outline.choose(5, Way::Rooted)?;
 //! let plates: Vec<u32> = choice.taxa().iter().map(|taxon| taxon.plate).collect();
@@ -40,12 +45,14 @@
 #![deny(unsafe_op_in_unsafe_fn)]
 
 mod choice;
+mod newick;
 mod outline;
 mod refusal;
 pub mod sys;
 mod tree;
 
 pub use choice::{choose, choose_in, Choice, Column, Way, Work, MOST_COUNT};
+pub use newick::MOST_TEXT_LEN;
 pub use outline::{Outline, Record, MOST_RECORDS, MOST_TAXA, RECORD_BYTES};
 pub use refusal::Refusal;
 pub use tree::{Tree, TreeError};

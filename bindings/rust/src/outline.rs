@@ -55,9 +55,10 @@ impl Record {
 
 /// A tree in the library's layout, which the library has checked.
 ///
-/// It is made from the bytes of an outline, here, or by a [`Tree`](crate::Tree). The layout, for
-/// those who have such bytes: records of 16 bytes, numbered from 1, record 1 the root; each field
-/// is unsigned and has its least significant byte first.
+/// It is read from text, by [`from_newick`](Outline::from_newick), made by a
+/// [`Tree`](crate::Tree), or made from the bytes of an outline. The layout, for those who have such
+/// bytes: records of 16 bytes, numbered from 1, record 1 the root; each field is unsigned and has
+/// its least significant byte first.
 ///
 /// | bytes | field | |
 /// |---|---|---|
@@ -95,9 +96,14 @@ impl Outline {
         // SAFETY: pointer and length are those of one slice, and place is a variable of its own.
         let number = unsafe { sys::plates_check(bytes.as_ptr(), bytes.len(), &mut place) };
         Refusal::judge(number, place)?;
-        Ok(Outline {
+        Ok(Outline::checked(bytes))
+    }
+
+    // The outline of bytes that the library has accepted.
+    pub(crate) fn checked(bytes: &[u8]) -> Outline {
+        Outline {
             bytes: bytes.to_vec(),
-        })
+        }
     }
 
     /// The outline's bytes.

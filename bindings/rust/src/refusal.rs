@@ -1,18 +1,18 @@
-//! Why an outline or a call is refused.
+//! Why an outline, a text or a call is refused.
 
 use std::error::Error;
 use std::fmt;
 
-/// Why an outline or a call is refused. Where several reasons hold, the first in this order is
-/// given.
+/// Why an outline, a text or a call is refused. Where several reasons hold, the first in this order
+/// is given; reading a text has an [order](crate::Outline::from_newick#errors) of its own.
 ///
-/// The library's table of refusals grows: later versions add numbers from 10 on. So a `match` has an
-/// arm for the rest, and a number that these bindings do not know is a refusal all the same, as
+/// The library's table of refusals grows: later versions add numbers from 12 on. So a `match` has
+/// an arm for the rest, and a number that these bindings do not know is a refusal all the same, as
 /// [`Other`](Refusal::Other).
 ///
-/// Through the safe interface only some of them arise: an [`Outline`](crate::Outline) is refused
-/// with numbers 2, 3 and 5 to 8, choosing with number 4. Numbers 1 and 9 are for those who call
-/// [`sys`](crate::sys).
+/// Through the safe interface only some of them arise: the bytes of an [`Outline`](crate::Outline)
+/// are refused with numbers 2, 3 and 5 to 8, a text with 3, 5, 7, 8, 10 and 11, choosing with
+/// number 4. Numbers 1 and 9 are for those who call [`sys`](crate::sys).
 ///
 /// ```
 /// use plates::{Outline, Refusal};
@@ -31,7 +31,7 @@ pub enum Refusal {
     UnknownWay,
     /// 2: the outline is empty, or its length is no multiple of 16.
     PartialRecord,
-    /// 3: the outline has more than 127 records.
+    /// 3: the outline, or the tree of a text, has more than 127 records.
     TooManyRecords,
     /// 4: the page count is above 4,096.
     CountTooLarge,
@@ -53,8 +53,14 @@ pub enum Refusal {
         /// The lowest such record, from 1: the later of the two.
         record: u32,
     },
-    /// 9: marks, curve or work is too short.
+    /// 9: marks, curve or work is too short, or the outline to read a text to.
     BufferTooShort,
+    /// 10: the text is no tree in the form that
+    /// [`Outline::from_newick`](crate::Outline::from_newick) reads, or has more than 16,384 bytes.
+    BadText,
+    /// 11: a taxon of the text has no price or more than one, or a price is for a plate that no
+    /// taxon has; through [`sys`](crate::sys) also that the count of pair numbers is odd.
+    BadPairs,
     /// A number that these bindings do not know, from a later version of the library. A later
     /// version of the bindings may have a name for it.
     #[non_exhaustive]
@@ -93,6 +99,8 @@ impl Refusal {
             7 => Refusal::TooManyTaxa,
             8 => Refusal::DuplicatePlate { record: place },
             9 => Refusal::BufferTooShort,
+            10 => Refusal::BadText,
+            11 => Refusal::BadPairs,
             _ => Refusal::Other { number, place },
         })
     }
@@ -118,6 +126,8 @@ impl Refusal {
             Refusal::TooManyTaxa => 7,
             Refusal::DuplicatePlate { .. } => 8,
             Refusal::BufferTooShort => 9,
+            Refusal::BadText => 10,
+            Refusal::BadPairs => 11,
             Refusal::Other { number, .. } => number,
         }
     }
@@ -154,7 +164,11 @@ impl fmt::Display for Refusal {
             }
             Refusal::TooManyTaxa => "the outline has more than 64 taxa",
             Refusal::DuplicatePlate { .. } => "an earlier taxon has the same plate",
-            Refusal::BufferTooShort => "marks, curve or work is too short",
+            Refusal::BufferTooShort => "marks, curve, work or outline is too short",
+            Refusal::BadText => "the text is no tree in Newick form, or has more than 16384 bytes",
+            Refusal::BadPairs => {
+                "a taxon has no price or more than one, or a price is for a plate that no taxon has"
+            }
             Refusal::Other { number, .. } => {
                 return write!(f, "refusal {number}, which these bindings do not know");
             }

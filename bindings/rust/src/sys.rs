@@ -3,10 +3,10 @@
 //!
 //! What each function gives and writes is said in `plates.h`. In short: pointers are not null (also
 //! where a length is 0), each points to as many elements as its length says and is aligned for
-//! them, and no two of them overlap. Nothing else is asked of the caller, whatever the outline
-//! holds. A refusal leaves the lent buffers `marks`, `curve` and `work` as they were; `answer` and
-//! `place` carry the numbers given and are written in any case. Every number but 0 is a refusal,
-//! and later versions add some.
+//! them, and what is written overlaps nothing else. Nothing else is asked of the caller, whatever
+//! the outline or the text holds. A refusal leaves the lent buffers (`marks`, `curve`, `work`, and
+//! the `outline` of `plates_read`) as they were; `answer` and `place` carry the numbers given and
+//! are written in any case. Every number but 0 is a refusal, and later versions add some.
 //!
 //! ```
 //! use plates::sys;
@@ -40,6 +40,26 @@
 //! ```
 
 extern "C" {
+    /// Reads a tree from text with pairs of numbers, plate then price: gives 0 or the refusal's
+    /// number, and in any case writes the three numbers of `answer` (number, place, records).
+    /// Unless it refuses, it also writes the records' bytes to the beginning of `outline`.
+    ///
+    /// # Safety
+    ///
+    /// `text` can be read for `text_len` bytes and `pairs` for `pairs_len` numbers. `outline` and
+    /// `answer` can be written for `outline_len` bytes and 3 numbers. None of the pointers is null,
+    /// each is aligned for its elements, and neither `outline` nor `answer` overlaps the other or
+    /// what is read.
+    pub fn plates_read(
+        text: *const u8,
+        text_len: usize,
+        pairs: *const u32,
+        pairs_len: usize,
+        outline: *mut u8,
+        outline_len: usize,
+        answer: *mut u32,
+    ) -> u32;
+
     /// Gives 0 or the number of the refusal of an outline, and writes its place, 0 if it is sound.
     ///
     /// # Safety

@@ -1,10 +1,10 @@
 -- The starred cases of document 01, A1 to E, in one list, and that the definitions give what each case says.
-use Prim.Native.Nat.{ℕ, zero, suc, _/_, _%_}
+use Prim.Native.Nat.{ℕ}
 use mathlib.Core.Path.{_≡_, refl}
 use mathlib.Core.List.{List, [], _∷_, _++_, map}
 use Rattle.lists.specs.Lists.{from, anywhere, total, lowest}
 use Rattle.refusals.specs.Refusals.{Told, passed}
-use Rattle.outline.specs.Outline.{short, long, records}
+use Rattle.outline.specs.Outline.{short, long, records, bytes, recordBytes}
 use Rattle.outline.specs.Refusals.{badField, naming, named, badLink, taxaIn, taxa, hasPlate, isDuplicate, sizeRows, recordRows, checked}
 use Rattle.diversity.specs.Diversity.{chain, clade, chosen, within, elsewhere, rooted, unrooted, diversity, cost, chosenTaxa}
 use Rattle.diversity.specs.Search.{subsets, leads, better, turn, exhaustiveSearch, setOf, optimum, bestDiversity, leastCost}
@@ -53,33 +53,24 @@ computed c =
     }
 
 -- ---- the outlines
--- the k bytes of a number, least significant first
-bytes : ℕ → ℕ → List ℕ
-bytes zero n = []
-bytes (suc k) n = (n % 256) ∷ bytes k (n / 256)
-
--- a record: next, first, length, price, plate
-entry : ℕ → ℕ → ℕ → ℕ → ℕ → List ℕ
-entry next first length price plate = bytes 2 next ++ bytes 2 first ++ bytes 4 length ++ bytes 4 price ++ bytes 4 plate
-
 treeA : List ℕ
-treeA = entry 0 2 0 0 0 ++ entry 5 3 3 0 0 ++ entry 4 0 4 3 11 ++ entry 0 0 2 1 12 ++ entry 0 0 5 2 13
+treeA = recordBytes 0 2 0 0 0 ++ recordBytes 5 3 3 0 0 ++ recordBytes 4 0 4 3 11 ++ recordBytes 0 0 2 1 12 ++ recordBytes 0 0 5 2 13
 
 -- B: root (length 0), group of length 7, one taxon of length 0 and price 2
 treeB : List ℕ
-treeB = entry 0 2 0 0 0 ++ entry 0 3 7 0 0 ++ entry 0 0 0 2 1
+treeB = recordBytes 0 2 0 0 0 ++ recordBytes 0 3 7 0 0 ++ recordBytes 0 0 0 2 1
 
 -- C: two taxa under a root of length 0, of one length and one price
 treeC : ℕ → ℕ → List ℕ
-treeC length price = entry 0 2 0 0 0 ++ entry 3 0 length price 1 ++ entry 0 0 length price 2
+treeC length price = recordBytes 0 2 0 0 0 ++ recordBytes 3 0 length price 1 ++ recordBytes 0 0 length price 2
 
 -- D: three taxa under a root of length 0, lengths 6, 5, 5, prices 3, 2, 2
 treeD : List ℕ
-treeD = entry 0 2 0 0 0 ++ entry 3 0 6 3 1 ++ entry 4 0 5 2 2 ++ entry 0 0 5 2 3
+treeD = recordBytes 0 2 0 0 0 ++ recordBytes 3 0 6 3 1 ++ recordBytes 4 0 5 2 2 ++ recordBytes 0 0 5 2 3
 
 -- E: one taxon, length 5, price 1
 treeE : List ℕ
-treeE = entry 0 0 5 1 1
+treeE = recordBytes 0 0 5 1 1
 
 -- ---- the cases
 -- a selection of an accepted outline: marks, diversity, cost, number of taxa, spare
@@ -125,5 +116,5 @@ unfolding
     from anywhere total lowest short long records badField naming named badLink taxaIn taxa hasPlate
     isDuplicate sizeRows recordRows checked chain clade chosen within elsewhere rooted unrooted diversity cost
     chosenTaxa subsets leads better turn exhaustiveSearch setOf optimum bestDiversity leastCost
-    columnsAlike spare bytes entry treeA treeB treeC treeD treeE starred
+    columnsAlike spare bytes recordBytes treeA treeB treeC treeD treeE starred
 starred-hold = refl

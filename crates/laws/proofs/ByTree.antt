@@ -8,12 +8,13 @@ use native.Mathlib.Nat.{mul-add, mul-zero}
 use lib.Dec.{eqb}
 use borrow.Author.Tests.{eq-eqb}
 use Rattle.lists.specs.Lists.{pick, one, anywhere, total}
+use Rattle.lists.proofs.Bools.{eqb-comm}
 use Rattle.outline.specs.Outline.{size, first, branch, price, records, isTaxon}
 use Rattle.outline.proofs.Kept.{Linked}
 use Rattle.diversity.specs.Diversity.{clade, chosen, within, elsewhere, rooted, unrooted, cost}
 use Rattle.diversity.specs.Behind.{IsSet}
 use Rattle.laws.specs.Forest.{Forest, empty, node, sumIn, countIn, tree, isGroup}
-use Rattle.laws.proofs.Sums.{positive, anywhere-count, occurs, occurs-most, eqb-comm, total-add, total-zero, total-ext, total-at}
+use Rattle.laws.proofs.Sums.{positive, anywhere-count, occurs, occurs-most, total-add, total-zero, total-ext, total-at}
 use Rattle.laws.proofs.Forest.{total-listed, chain-listed, tree-step, members-cases, sum-all, inside, distinct}
 use Rattle.laws.proofs.Marks.{group-unchosen}
 use Rattle.laws.proofs.Measures.{chosenIn, groupsIn, costIn, rootedIn, unrootedIn, crossing, crossing-unrooted}

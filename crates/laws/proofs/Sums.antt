@@ -7,7 +7,7 @@ use mathlib.Core.List.{List, [], _∷_, _++_}
 use native.Mathlib.Omega.{arith}
 use native.Mathlib.Nat.{zero-add, mul-add}
 use lib.Dec.{eqb, ltb}
-use borrow.Author.Tests.{eqb-true, eqb-false, eq-eqb, ne-eqb, ltb-true, ltb-false}
+use borrow.Author.Tests.{eqb-true, eqb-false, ne-eqb, ltb-true, ltb-false}
 use Rattle.lists.specs.Lists.{pick, one, from, anywhere, total}
 
 -- a number as a test
@@ -141,13 +141,6 @@ occurs-range x a n h =
     let t = total-some (λ q. one (eqb x q)) a n h in
     let e = eqb-true x (t .0) (one-true _ (t .3)) in
     (omega arith, omega arith)
-
-pub eqb-comm : (a b : ℕ) → eqb a b ≡ eqb b a
-eqb-comm a b = go (eqb a b) refl
-  where
-    go : (c : Bool) → eqb a b ≡ c → eqb a b ≡ eqb b a
-    go true e = e ∙ sym (eq-eqb b a (sym (eqb-true a b e)))
-    go false e = e ∙ sym (ne-eqb b a (λ q. eqb-false a b e (sym q)))
 
 -- a sum in which only the terms at x count
 at-same : (w : ℕ → ℕ) (x q : ℕ) → w q * one (eqb x q) ≡ w x * one (eqb x q)

@@ -42,12 +42,12 @@ unfolding long
 long-most l at b = omega (arith, short-most l at b, short-most l (at + 2) b)
 
 -- ---- a refusal
-refusal-most : (t : Told) → Placed mostRecords t → length (refusalText t) ≤ 14
+refusal-most : (t : Told) → Placed mostRecords t → length (refusalText t) ≤ 15
 unfolding refusalText others
 refusal-most t p =
     simp length-append (omega (
       arith,
-      decimal-most 0 (t .number) (omega (arith, p .number-most)),
+      decimal-most 1 (t .number) (omega (arith, p .number-most)),
       decimal-most 2 (t .place) (omega (arith, p .place-most)),
     ))
 

@@ -1,8 +1,10 @@
 -- Tests: joined ones that fail, and tests as numbers, in the code and in the definitions.
-use Prim.Native.Nat.{_≤_}
-use mathlib.Core.Path.{_≡_, refl, sym}
+use Prim.Native.Nat.{ℕ, _≤_}
+use mathlib.Core.Path.{_≡_, refl, sym, _∙_}
 use mathlib.Core.Bool.{Bool, true, false, _||_, _&&_, false≢true}
 use native.Mathlib.Omega.{arith}
+use lib.Dec.{eqb}
+use borrow.Author.Tests.{eq-eqb, ne-eqb, eqb-true, eqb-false}
 use mir.Val.{boolByte}
 use Rattle.lists.specs.Lists.{one}
 
@@ -33,3 +35,11 @@ both-true false b e = absurd (false≢true e)
 pub second-false : (a b : Bool) → (a && b) ≡ false → a ≡ true → b ≡ false
 second-false true b e h = e
 second-false false b e h = absurd (false≢true h)
+
+-- equality either way round
+pub eqb-comm : (a b : ℕ) → eqb a b ≡ eqb b a
+eqb-comm a b = go (eqb a b) refl
+  where
+    go : (c : Bool) → eqb a b ≡ c → eqb a b ≡ eqb b a
+    go true e = e ∙ sym (eq-eqb b a (sym (eqb-true a b e)))
+    go false e = e ∙ sym (ne-eqb b a (λ q. eqb-false a b e (sym q)))

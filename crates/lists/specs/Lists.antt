@@ -2,7 +2,7 @@
 use Prim.Native.Nat.{ℕ, zero, suc, _+_}
 use mathlib.Core.Bool.{Bool, true, false, _||_}
 use mathlib.Core.List.{List, [], _∷_, _++_}
-use lib.ListN.{length, drop}
+use lib.ListN.{length, take, drop}
 
 -- the first of two where a test holds, else the second
 abbrev pub pick {ℓ} : {A : Type ℓ} → Bool → A → A → A
@@ -36,3 +36,7 @@ lowest p (x ∷ xs) = let later = lowest p xs in pick (p x) x later
 -- numbers written at the beginning of a buffer; the rest of the buffer is unchanged
 unfoldable pub over : List ℕ → List ℕ → List ℕ
 over text buffer = text ++ drop (length text) buffer
+
+-- numbers written in a buffer at a place: what stands before the place stays, and they are written over the rest
+unfoldable pub overAt : ℕ → List ℕ → List ℕ → List ℕ
+overAt at text buffer = take at buffer ++ over text (drop at buffer)

@@ -1,7 +1,7 @@
 -- An outline: N records of 16 bytes, numbered from 1. Record 1 is the root.
-use Prim.Native.Nat.{ℕ, _+_, _*_, _-_, _/_}
+use Prim.Native.Nat.{ℕ, zero, suc, _+_, _*_, _-_, _/_, _%_}
 use mathlib.Core.Bool.{Bool}
-use mathlib.Core.List.{List}
+use mathlib.Core.List.{List, [], _∷_, _++_}
 use lib.ListN.{length, getD}
 use lib.Dec.{eqb}
 use Rattle.lists.specs.Lists.{from}
@@ -44,3 +44,13 @@ plate o r = long o (16 * (r - 1) + 12)
 -- a first of 0 makes the record a taxon, otherwise it is a group
 abbrev pub isTaxon : List ℕ → ℕ → Bool
 isTaxon o r = eqb (first o r) 0
+
+-- the k bytes of a number, least significant byte first
+unfoldable pub bytes : ℕ → ℕ → List ℕ
+bytes zero n = []
+bytes (suc k) n = n % 256 ∷ bytes k (n / 256)
+
+-- the 16 bytes of a record with these fields
+unfoldable pub recordBytes : ℕ → ℕ → ℕ → ℕ → ℕ → List ℕ
+recordBytes next first branch price plate =
+    bytes 2 next ++ (bytes 2 first ++ (bytes 4 branch ++ (bytes 4 price ++ bytes 4 plate)))

@@ -3,11 +3,19 @@ use Prim.Native.Nat.{ℕ}
 use mathlib.Core.Path.{_≡_}
 use mathlib.Core.List.{List}
 use lib.ListN.{length, getD}
-use Rattle.choice.specs.Answer.{Call, Reply, Answered}
+use Rattle.choice.specs.Answer as choose
+use Rattle.newick.specs.Answer as read
 
--- the six numbers that stand in `answer`
-abbrev pub replyIn : List ℕ → Reply
-replyIn answer = record {
+-- what a function gives with its `answer`: that has so many numbers and no more, the first of them is given, and they answer the
+-- call
+pub record Given {Reply : Type 0} (many : ℕ) (replyIn : List ℕ → Reply) (Answered : Reply → Type 0) (number : ℕ) (answer : List ℕ) : Type 0 where
+  pub answer-long : length answer ≡ many
+  pub number-given : number ≡ getD answer 0 0
+  pub answered : Answered (replyIn answer)
+
+-- the six numbers of choosing
+abbrev pub chosenIn : List ℕ → choose.Reply
+chosenIn answer = record {
   number = getD answer 0 0;
   place = getD answer 1 0;
   diversity = getD answer 2 0;
@@ -16,8 +24,14 @@ replyIn answer = record {
   spare = getD answer 5 0;
 }
 
--- `answer` has these six and no more, choosing gives the first of them, and a call is answered by them as `choose` answers it
-pub record Chosen (c : Call) (number : ℕ) (answer marks curve work : List ℕ) : Type 0 where
-  pub answer-long : length answer ≡ 6
-  pub number-given : number ≡ replyIn answer .number
-  pub answered : Answered c (replyIn answer) marks curve work
+-- a call is answered by them as `choose` answers it
+abbrev pub Chosen : choose.Call → ℕ → List ℕ → List ℕ → List ℕ → List ℕ → Type 0
+Chosen c number answer marks curve work = Given 6 chosenIn (λ r. choose.Answered c r marks curve work) number answer
+
+-- the three numbers of reading
+abbrev pub readIn : List ℕ → read.Reply
+readIn answer = record { number = getD answer 0 0; place = getD answer 1 0; records = getD answer 2 0 }
+
+-- a call is answered by them as `read` answers it
+abbrev pub TextRead : read.Call → ℕ → List ℕ → List ℕ → Type 0
+TextRead c number answer outline = Given 3 readIn (λ r. read.Answered c r outline) number answer

@@ -1,12 +1,16 @@
-// The C interface: checking an outline, finding a plate's record, and choosing, over memory that the caller lends.
+// The C interface: checking an outline, finding a plate's record, choosing, and reading a tree from text, over memory that the
+// caller lends.
 // include/plates.h declares these functions.
 ghost use mathlib.Core.Path.{_≡_};
 ghost use Rattle.refusals.specs.Refusals.{tells};
 ghost use Rattle.outline.specs.Refusals.{checked, foundAt};
+ghost use Rattle.newick.specs.Answer.{call as reading};
 ghost use Rattle.choice.specs.Answer.{call};
-ghost use Rattle.plates.specs.Interface.{Chosen};
+ghost use Rattle.plates.specs.Interface.{Chosen, TextRead};
 use choice::Answer;
 use choice::choose;
+use newick::Answer as Reading;
+use newick::read;
 use outline::check;
 use outline::find_record;
 use refusals::verdict::Verdict;
@@ -66,6 +70,29 @@ pub extern "C" fn plates_choose(
         Answer::Refused(refusal) => {
             let number = number_of(refusal);
             *answer = [number, place_of(refusal) as u32, 0, 0, 0, 0];
+            number
+        }
+    }
+}
+
+// Reads a tree from text, and writes number, place and the number of records; the number is given as well.
+#[no_mangle]
+pub extern "C" fn plates_read(
+    text: &[u8],
+    pairs: &[u32],
+    outline: &mut [u8],
+    answer: &mut [u32; 3],
+) -> u32
+    ensures { λ n. ⌜ TextRead (reading (now (text .entry)) (now (pairs .entry)) (now (outline .entry))) n (now (answer .exit)) (now (outline .exit)) ⌝ }
+{
+    match read(text, pairs, outline) {
+        Reading::Read { records } => {
+            *answer = [0, 0, records as u32];
+            0
+        }
+        Reading::Refused(refusal) => {
+            let number = number_of(refusal);
+            *answer = [number, place_of(refusal) as u32, 0];
             number
         }
     }

@@ -20,6 +20,8 @@ refusal-numbered (Refusal.BadLink r) = omega arith
 refusal-numbered Refusal.TooManyTaxa = omega arith
 refusal-numbered (Refusal.DuplicatePlate r) = omega arith
 refusal-numbered Refusal.BufferTooShort = omega arith
+refusal-numbered Refusal.BadText = omega arith
+refusal-numbered Refusal.BadPairs = omega arith
 
 pub refusal-not-zero : (e : Refusal) → eqb (refusal e .number) 0 ≡ false
 refusal-not-zero e = ne-eqb (refusal e .number) 0 (λ z. omega (arith, refusal-numbered e))
@@ -34,7 +36,9 @@ refusalAt t =
     (pick (eqb (t .number) 5) (Refusal.FieldOutOfRange (t .place))
     (pick (eqb (t .number) 6) (Refusal.BadLink (t .place))
     (pick (eqb (t .number) 7) Refusal.TooManyTaxa
-    (pick (eqb (t .number) 8) (Refusal.DuplicatePlate (t .place)) Refusal.BufferTooShort)))))))
+    (pick (eqb (t .number) 8) (Refusal.DuplicatePlate (t .place))
+    (pick (eqb (t .number) 9) Refusal.BufferTooShort
+    (pick (eqb (t .number) 10) Refusal.BadText Refusal.BadPairs)))))))))
 
 refusal-at : (e : Refusal) → refusalAt (refusal e) ≡ e
 unfolding refusalAt
@@ -47,6 +51,8 @@ refusal-at (Refusal.BadLink r) = refl
 refusal-at Refusal.TooManyTaxa = refl
 refusal-at (Refusal.DuplicatePlate r) = refl
 refusal-at Refusal.BufferTooShort = refl
+refusal-at Refusal.BadText = refl
+refusal-at Refusal.BadPairs = refl
 
 -- the number and the place determine the refusal
 pub refusal-determined : (d e : Refusal) → refusal d ≡ refusal e → d ≡ e

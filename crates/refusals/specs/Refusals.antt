@@ -30,6 +30,8 @@ refusal (Refusal.BadLink r) = tells 6 r  -- link
 refusal Refusal.TooManyTaxa = tells 7 0  -- crowd
 refusal (Refusal.DuplicatePlate r) = tells 8 r  -- twin
 refusal Refusal.BufferTooShort = tells 9 0  -- space
+refusal Refusal.BadText = tells 10 0
+refusal Refusal.BadPairs = tells 11 0
 
 -- and of what a judge answers
 abbrev pub told : Verdict → Told

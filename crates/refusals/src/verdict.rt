@@ -13,6 +13,8 @@ pub enum Refusal {
     TooManyTaxa,
     DuplicatePlate(usize),
     BufferTooShort,
+    BadText,
+    BadPairs,
 }
 
 pub enum Verdict {
@@ -34,6 +36,8 @@ pub fn number_of(refusal: Refusal) -> u32
         Refusal::TooManyTaxa => 7,
         Refusal::DuplicatePlate(_) => 8,
         Refusal::BufferTooShort => 9,
+        Refusal::BadText => 10,
+        Refusal::BadPairs => 11,
     }
 }
 
@@ -51,5 +55,7 @@ pub fn place_of(refusal: Refusal) -> usize
         Refusal::TooManyTaxa => 0,
         Refusal::DuplicatePlate(r) => r,
         Refusal::BufferTooShort => 0,
+        Refusal::BadText => 0,
+        Refusal::BadPairs => 0,
     }
 }

@@ -1,22 +1,18 @@
 -- Writing a text piece by piece, by what is left of it.
 use Prim.Native.Nat.{ℕ, _+_, _≤_, _<_}
 use mathlib.Core.Path.{_≡_, refl, sym, ap, _∙_}
-use mathlib.Core.List.{List, [], _∷_, _++_, append-assoc}
+use mathlib.Core.List.{List, [], _∷_, _++_}
 use native.Mathlib.Numerals.{add-one}
 use native.Mathlib.Omega.{arith}
-use lib.ListN.{length, getD, take, drop, set, length-append, take-append-drop, drop-of-length-le, length-set}
-use lib.Seq.{drop-cons, set-split, take-at, drop-at, drop-drop, length-take-le}
-use Rattle.lists.specs.Lists.{over}
-use Rattle.text.specs.Written.{overAt, LongEnough, Written}
+use lib.ListN.{length, getD, drop, set, length-append, drop-of-length-le, length-set}
+use lib.Seq.{drop-cons}
+use Rattle.lists.specs.Lists.{over, overAt}
+use Rattle.lists.proofs.Pieces.{over-one, over-nothing, over-both}
+use Rattle.text.specs.Written.{LongEnough, Written}
 
 -- one byte
 pub written-byte : (at b : ℕ) (buffer : List ℕ) → at < length buffer → Written at (b ∷ []) buffer (set buffer at b) (at + 1)
-unfolding over overAt
-written-byte at b buffer h = record { buffer-is = rw (drop-drop 1 at buffer, add-one) (set-split buffer at b h); next-is = refl }
-
-over-nothing : (at : ℕ) (buffer : List ℕ) → overAt at [] buffer ≡ buffer
-unfolding over overAt
-over-nothing at buffer = take-append-drop at buffer
+written-byte at b buffer h = record { buffer-is = over-one at b buffer h; next-is = refl }
 
 pub written-nothing : (at : ℕ) (buffer : List ℕ) → Written at [] buffer buffer at
 written-nothing at buffer = record { buffer-is = sym (over-nothing at buffer); next-is = omega arith }
@@ -25,17 +21,6 @@ written-nothing at buffer = record { buffer-is = sym (over-nothing at buffer); n
 pub written-within : {text before after : List ℕ} {next : ℕ} → Written 0 text before after next → next ≤ length after
 unfolding over overAt
 written-within d = omega (arith, d .next-is, simp length-append at (ap length (d .buffer-is)))
-
--- two texts, one after the other
-over-both : (at : ℕ) (s t buffer : List ℕ) → at ≤ length buffer → overAt (at + length s) t (overAt at s buffer) ≡ overAt at (s ++ t) buffer
-unfolding over overAt
-over-both at s t buffer h =
-    let front = take at buffer ++ s in
-    let rest = drop at buffer in
-    let back = drop (length s) rest in
-    let long : length front ≡ at + length s = length-append (take at buffer) s ∙ ap (λ k. k + length s) (length-take-le at buffer h) in
-    let whole : take at buffer ++ (s ++ back) ≡ front ++ back = sym (append-assoc (take at buffer) s back) in
-    rw (whole, take-at front back _ long, drop-at front back _ long, drop-drop (length t) (length s) rest, ← length-append s t) (simp append-assoc)
 
 -- the rest, written at place `to` of the buffer after, completes the whole, which begins at place `at` of the buffer before
 pub record Left (at : ℕ) (whole before : List ℕ) (to : ℕ) (rest after : List ℕ) : Type 0 where
@@ -65,7 +50,7 @@ module _ {at to : ℕ} {whole before after : List ℕ} (text rest : List ℕ) (l
       → Left at whole before next rest again
   left-goes {next} {again} d same =
       record {
-        same-buffer = rw (d .buffer-is, d .next-is, over-both to text rest after (omega (arith, left-fits))) (l .same-buffer);
+        same-buffer = rw (d .buffer-is, d .next-is, over-both to (to + length text) text rest after (omega (arith, left-fits)) refl) (l .same-buffer);
         same-end = omega (arith, d .next-is, l .same-end, length-append text rest);
         same-length = same ∙ l .same-length;
         fits = omega (arith, d .next-is, l .fits, length-append text rest);

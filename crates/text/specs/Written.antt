@@ -1,13 +1,9 @@
 -- A text written into a buffer at a place.
 use Prim.Native.Nat.{ℕ, _+_, _≤_}
 use mathlib.Core.Path.{_≡_}
-use mathlib.Core.List.{List, _++_}
-use lib.ListN.{length, take, drop}
-use Rattle.lists.specs.Lists.{over}
-
--- the buffer with a text written at a place: what stands before the place stays, and the text is written over the rest
-unfoldable pub overAt : ℕ → List ℕ → List ℕ → List ℕ
-overAt at text buffer = take at buffer ++ over text (drop at buffer)
+use mathlib.Core.List.{List}
+use lib.ListN.{length}
+use Rattle.lists.specs.Lists.{overAt}
 
 -- the buffer is long enough for a text at a place
 abbrev pub LongEnough : ℕ → List ℕ → List ℕ → Type 0

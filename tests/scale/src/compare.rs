@@ -2,7 +2,8 @@
 
 use crate::expect::Expected;
 use crate::frame::difference;
-use crate::library::{CheckObserved, ChooseObserved, FindObserved};
+use crate::library::{CheckObserved, ChooseObserved, FindObserved, ReadObserved};
+use crate::reading::ReadExpected;
 use crate::rules::Refusal;
 
 /// The differences found, and how many numbers and bytes were compared.
@@ -80,6 +81,27 @@ pub fn find(expected: u32, observed: &FindObserved) -> Comparison {
     }
 }
 
+pub fn read(expected: &ReadExpected, observed: &ReadObserved) -> Comparison {
+    let (before, after) = (&observed.before, &observed.after);
+    let outline = &expected.outline;
+    let differences = [
+        returned(expected.answer[0], observed.returned),
+        difference("answer", &before.answer, &after.answer, &expected.answer),
+        difference("text", &before.text, &after.text, &[]),
+        difference("pairs", &before.pairs, &after.pairs, &[]),
+        difference("outline", &before.outline, &after.outline, outline),
+    ];
+    let values = 1
+        + after.answer.cells.len()
+        + after.text.cells.len()
+        + after.pairs.cells.len()
+        + after.outline.cells.len();
+    Comparison {
+        differences: differences.into_iter().flatten().collect(),
+        values,
+    }
+}
+
 #[cfg(test)]
 mod tests {
     use super::*;
@@ -87,9 +109,10 @@ mod tests {
     use crate::cases;
     use crate::expect;
     use crate::frame::Frame;
-    use crate::library::Buffers;
+    use crate::library::{Buffers, ReadBuffers};
     use crate::outline::bytes;
     use crate::random::Random;
+    use crate::reading::{self, ReadCall};
 
     /// What a right library does.
     fn right(expected: &Expected, call: &Call) -> ChooseObserved {
@@ -266,6 +289,61 @@ mod tests {
             let mut altered = right.clone();
             altered.outline_after.cells[at] ^= 1;
             assert_eq!(find(7, &altered).differences.len(), 1);
+        }
+    }
+
+    /// Tree A read by a right library to a buffer of this length.
+    fn reading(outline: usize) -> (ReadExpected, ReadObserved) {
+        let call = ReadCall {
+            text: b"((11:4,12:2):3,13:5);".to_vec(),
+            pairs: vec![11, 3, 12, 1, 13, 2],
+            outline,
+        };
+        let expected = reading::expected(&call);
+        let before = ReadBuffers::random(&call, &mut Random::new(4));
+        let mut after = before.clone();
+        after.answer.write(&expected.answer);
+        after.outline.write(&expected.outline);
+        let returned = expected.answer[0];
+        let observed = ReadObserved {
+            returned,
+            before,
+            after,
+        };
+        (expected, observed)
+    }
+
+    /// Every altered element of the frame must be the one difference.
+    fn notices_every_read_cell<T: crate::frame::Cell>(
+        (expected, observed): &(ReadExpected, ReadObserved),
+        frame: impl Fn(&mut ReadObserved) -> &mut Frame<T>,
+        alter: impl Fn(T) -> T,
+    ) {
+        let cells = frame(&mut observed.clone()).cells.len();
+        for at in 0..cells {
+            let mut altered = observed.clone();
+            let cell = &mut frame(&mut altered).cells[at];
+            *cell = alter(*cell);
+            assert_eq!(read(expected, &altered).differences.len(), 1, "cell {at}");
+        }
+    }
+
+    #[test]
+    fn wrong_readings_are_noticed() {
+        for (outline, number) in [(90, 0), (79, 9)] {
+            let pair = reading(outline);
+            assert_eq!(pair.0.answer[0], number);
+            assert_eq!(read(&pair.0, &pair.1).differences, [""; 0]);
+            notices_every_read_cell(&pair, |o| &mut o.after.answer, |v| v ^ (1 << 31));
+            notices_every_read_cell(&pair, |o| &mut o.after.text, |v| v ^ 1);
+            notices_every_read_cell(&pair, |o| &mut o.after.pairs, |v| v ^ 1);
+            notices_every_read_cell(&pair, |o| &mut o.after.outline, |v| v ^ 128);
+            let (expected, mut altered) = pair;
+            altered.returned ^= 1;
+            assert_eq!(read(&expected, &altered).differences.len(), 1);
+            altered.after.outline = altered.before.outline.clone();
+            let untouched = read(&expected, &altered).differences.len();
+            assert_eq!(untouched, if number == 0 { 2 } else { 1 });
         }
     }
 }

@@ -56,7 +56,7 @@ pub fn damaged_outline(rng: &mut Random) -> Vec<u8> {
 }
 
 /// Mostly small, but also at and beyond the limits of records and taxa.
-fn any_size(rng: &mut Random) -> Vec<Record> {
+pub(crate) fn any_size(rng: &mut Random) -> Vec<Record> {
     match rng.below(16) {
         0 => {
             let records = rng.pick(&[127, 127, 128, 128, 129, 140]);

@@ -1,4 +1,4 @@
-//! Independent code, written from document 01, with which the static library is compared at scale.
+//! Independent code, written from documents 01 and 02, with which the static library is compared at scale.
 
 pub mod call;
 pub mod cases;
@@ -8,10 +8,16 @@ pub mod exhaustive;
 pub mod expect;
 pub mod frame;
 pub mod library;
+pub mod mangle;
+pub mod newick;
 pub mod outline;
 pub mod random;
+pub mod reading;
 pub mod report;
 pub mod rules;
 pub mod runs;
 pub mod shapes;
+pub mod spell;
 pub mod table;
+pub mod text_cases;
+mod text_runs;

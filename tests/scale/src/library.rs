@@ -3,6 +3,7 @@
 use crate::call::Call;
 use crate::frame::Frame;
 use crate::random::Random;
+use crate::reading::ReadCall;
 
 extern "C" {
     fn plates_check(outline: *const u8, outline_len: usize, place: *mut u32) -> u32;
@@ -18,6 +19,15 @@ extern "C" {
         curve_len: usize,
         work: *mut u64,
         work_len: usize,
+        answer: *mut u32,
+    ) -> u32;
+    fn plates_read(
+        text: *const u8,
+        text_len: usize,
+        pairs: *const u32,
+        pairs_len: usize,
+        outline: *mut u8,
+        outline_len: usize,
         answer: *mut u32,
     ) -> u32;
 }
@@ -50,6 +60,32 @@ pub fn choose(
             curve.len(),
             work.as_mut_ptr(),
             work.len(),
+            answer.as_mut_ptr(),
+        );
+    }
+    answer
+}
+
+/// Number and place.
+pub fn check(outline: &[u8]) -> [u32; 2] {
+    let mut place = 0;
+    // SAFETY: pointer and length are those of one slice, and place is a variable of its own.
+    let number = unsafe { plates_check(outline.as_ptr(), outline.len(), &mut place) };
+    [number, place]
+}
+
+/// The three numbers of the answer: number, place, records.
+pub fn read(text: &[u8], pairs: &[u32], outline: &mut [u8]) -> [u32; 3] {
+    let mut answer = [0; 3];
+    // SAFETY: every pointer comes with the length of the slice it was taken from, and what is written overlaps nothing else.
+    unsafe {
+        plates_read(
+            text.as_ptr(),
+            text.len(),
+            pairs.as_ptr(),
+            pairs.len(),
+            outline.as_mut_ptr(),
+            outline.len(),
             answer.as_mut_ptr(),
         );
     }
@@ -164,6 +200,56 @@ pub fn guarded_find(outline: &[u8], plate: u32, rng: &mut Random) -> FindObserve
     }
 }
 
+/// What a reading call is handed, with its guards.
+#[derive(Clone, Debug)]
+pub struct ReadBuffers {
+    pub text: Frame<u8>,
+    pub pairs: Frame<u32>,
+    pub outline: Frame<u8>,
+    pub answer: Frame<u32>,
+}
+
+impl ReadBuffers {
+    pub fn random(call: &ReadCall, rng: &mut Random) -> Self {
+        ReadBuffers {
+            text: Frame::holding(&call.text, rng),
+            pairs: Frame::holding(&call.pairs, rng),
+            outline: Frame::random(call.outline, rng),
+            answer: Frame::random(3, rng),
+        }
+    }
+}
+
+/// What a reading call returned and did to its buffers.
+#[derive(Clone, Debug)]
+pub struct ReadObserved {
+    pub returned: u32,
+    pub before: ReadBuffers,
+    pub after: ReadBuffers,
+}
+
+pub fn guarded_read(call: &ReadCall, rng: &mut Random) -> ReadObserved {
+    let before = ReadBuffers::random(call, rng);
+    let mut after = before.clone();
+    // SAFETY: each frame's buffer has the length given here, and the frames are separate allocations.
+    let returned = unsafe {
+        plates_read(
+            after.text.pointer(),
+            after.text.len,
+            after.pairs.pointer(),
+            after.pairs.len,
+            after.outline.pointer(),
+            after.outline.len,
+            after.answer.pointer(),
+        )
+    };
+    ReadObserved {
+        returned,
+        before,
+        after,
+    }
+}
+
 #[cfg(test)]
 mod tests {
     use super::*;
@@ -180,5 +266,23 @@ mod tests {
         assert_eq!(marks, [0, 0, 1, 0, 1]);
         assert_eq!(curve, [0, 0, 5, 1, 5, 1, 10, 3, 10, 3, 12, 5]);
         assert!(work.iter().all(|&number| number == 0));
+    }
+
+    #[test]
+    fn wrapper_checks_tree_a() {
+        let mut outline = bytes(&tree_a());
+        assert_eq!(check(&outline), [0, 0]);
+        outline[64] = 1;
+        assert_eq!(check(&outline), [6, 5]);
+    }
+
+    #[test]
+    fn wrapper_reads_tree_a() {
+        let mut outline = [9; 81];
+        let pairs = [11, 3, 12, 1, 13, 2];
+        let answer = read(b"((11:4,12:2):3,13:5);", &pairs, &mut outline);
+        assert_eq!(answer, [0, 0, 5]);
+        assert_eq!(outline[..80], bytes(&tree_a()));
+        assert_eq!(outline[80], 9);
     }
 }

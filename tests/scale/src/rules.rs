@@ -43,7 +43,7 @@ pub fn find(outline: &[u8], plate: u32) -> u32 {
         .map_or(0, |number| number as u32)
 }
 
-fn content(records: &[Record]) -> Option<Refusal> {
+pub(crate) fn content(records: &[Record]) -> Option<Refusal> {
     field_out_of_range(records)
         .or_else(|| bad_link(records))
         .or_else(|| too_many_taxa(records))
@@ -79,7 +79,7 @@ fn partial_record(outline: &[u8]) -> Option<Refusal> {
     )
 }
 
-fn too_many_records(records: &[Record]) -> Option<Refusal> {
+pub(crate) fn too_many_records(records: &[Record]) -> Option<Refusal> {
     without_place(3, records.len() > 127)
 }
 

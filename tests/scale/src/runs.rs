@@ -21,7 +21,7 @@ const WAYS: [u32; 2] = [ROOTED, UNROOTED];
 /// Makes calls, compares them and keeps count.
 pub struct Runner {
     seed: u64,
-    rng: Random,
+    pub(crate) rng: Random,
     pub report: Report,
 }
 
@@ -41,11 +41,14 @@ impl Runner {
         self.small(outlines)?;
         self.damaged(outlines)?;
         self.finder(outlines / 4)?;
-        self.larger(outlines / 25, outlines / 500)
+        self.larger(outlines / 25, outlines / 500)?;
+        self.sound_texts(outlines)?;
+        self.faulty_texts(2 * outlines)?;
+        self.stated_texts()
     }
 
     /// Starts a run with numbers that do not depend on the runs before it.
-    fn start(&mut self, run: char) {
+    pub(crate) fn start(&mut self, run: char) {
         self.rng = Random::new(self.seed ^ u64::from(run) << 32);
     }
 

@@ -1,9 +1,10 @@
-//! Tests of the bindings: document 01's cases, the refusals, building trees, and calls that share
-//! memory or run at once.
+//! Tests of the bindings: document 01's cases, the refusals, building trees, reading texts, and calls
+//! that share memory or run at once.
 
 mod cases;
 mod choosing;
 mod outlines;
 mod refusals;
 mod support;
+mod texts;
 mod trees;

@@ -225,8 +225,8 @@ fn first_that_holds_is_given() {
 
 #[test]
 fn numbers_and_places() {
-    for number in 1..=9 {
-        let refusal = Refusal::from_parts(number, 7).expect("nine refusals");
+    for number in 1..=11 {
+        let refusal = Refusal::from_parts(number, 7).expect("eleven refusals");
         assert_eq!(refusal.number(), number);
         let has_place = [5, 6, 8].contains(&number);
         assert_eq!(refusal.place(), has_place.then_some(7));
@@ -258,6 +258,16 @@ fn refusals_are_errors_with_a_sentence() {
     );
     let count = Refusal::CountTooLarge.to_string();
     assert_eq!(count, "the page count is above 4096 quarters");
+    let text = Refusal::BadText.to_string();
+    assert_eq!(
+        text,
+        "the text is no tree in Newick form, or has more than 16384 bytes"
+    );
+    let pairs = Refusal::BadPairs.to_string();
+    assert_eq!(
+        pairs,
+        "a taxon has no price or more than one, or a price is for a plate that no taxon has"
+    );
     let later = |place| Refusal::from_parts(4_000, place).map(|refusal| refusal.to_string());
     let sentence = "refusal 4000, which these bindings do not know";
     assert_eq!(later(0).as_deref(), Some(sentence));

@@ -7,7 +7,7 @@ use Rattle.refusals.specs.Refusals.{tells, refusal}
 use Rattle.outline.specs.Refusals.{mostRecords}
 use Rattle.choice.specs.Answer.{Reply, refused, told}
 use Rattle.choice.proofs.Answers.{reply-place-most}
-use Rattle.plates.proofs.Chosen.{answered-chosen}
+use Rattle.plates.proofs.Answers.{answered-given}
 use Rattle.plates.proofs.plates_choose.Statement.{statement}
 use Rattle.plates.proofs.plates_choose.Tie as tie
 
@@ -31,7 +31,7 @@ returns c =
     let d = c .before .before in
     let h = d .before .before .before .before .before .before .before .before in
     let e = sym (ap told (d .diversity .given .1)) in
-    answered-chosen (h .choose .ensures) refl (ap (λ (r : Reply). r .number) e) e
+    answered-given (h .choose .ensures) refl refl e
 
 returns-2 : tie.Need-returns-2
 returns-2 c =
@@ -39,7 +39,7 @@ returns-2 c =
     let f = n .before .before in
     let e = refusal-told f in
     let number = n .number-of .ensures in
-    answered-chosen (chosen f .choose .ensures) refl (number ∙ ap (λ (r : Reply). r .number) e)
+    answered-given (chosen f .choose .ensures) refl refl
     (ap₂ (λ m p. refused (tells m p)) number (c .before .place-of .ensures) ∙ e)
 
 pub plates-choose-spec : {M : Type 1} → statement M

@@ -1,0 +1,20 @@
+-- Laws of trees as text.
+pub mod Answers
+pub mod Bounds
+pub mod Cursors
+pub mod Demands
+pub mod Endings
+pub mod Fields
+pub mod Grown
+pub mod Lengths
+pub mod Pairing
+pub mod Parts
+pub mod Passing
+pub mod Plates
+pub mod Ranges
+pub mod Rows
+pub mod Scanning
+pub mod Signs
+pub mod Spelling
+pub mod Tokens
+pub mod Written
