@@ -71,15 +71,21 @@ pub fn all() -> Vec<Reading> {
     let prices = pairs(&tree, random);
     let blanks = padded(&text);
     let lists = MOST_BYTES / 2 - 1;
-    let members = format!("({});", vec!["7"; lists].join(","));
     let nested = format!("{}7{};", "(".repeat(lists), ")".repeat(lists));
-    let seven = vec![7, 1];
-    vec![
+    let mut readings = vec![
         Reading::new("64 taxa", text, prices.clone(), tree.len()),
         Reading::new("64 taxa, blanks", blanks, prices, tree.len()),
-        Reading::new("one list", members.into(), seven.clone(), lists + 1),
-        Reading::new("nested lists", nested.into(), seven, lists + 1),
-    ]
+        Reading::new("nested lists", nested.into(), vec![7, 1], lists + 1),
+    ];
+    readings.extend([8, 4, 2, 1].map(|part| one_list(MOST_BYTES / part)));
+    readings
+}
+
+/// One list of taxa, a text of so many bytes: its time shows how that grows with the text.
+fn one_list(bytes: usize) -> Reading {
+    let taxa = bytes / 2 - 1;
+    let text = format!("({});", vec!["7"; taxa].join(","));
+    Reading::new("one list", text.into(), vec![7, 1], taxa + 1)
 }
 
 /// How many answers of the plain reader were compared with those of plates, buffers included, and how many differ: the measured

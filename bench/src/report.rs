@@ -40,8 +40,8 @@ four are the ratios of the medians of IQ-TREE's own figure and of plates, with a
 const READING: &str = "\
 Microseconds. The plain reader is Rust and goes over the text once, with a stack of the lists that are open; it gives the same
 refusals, and the check of the outline is that of plates. Both are called in turn; the ratio is that of the medians. The first
-text has lengths and no blanks, the others are as long as a text can be. One of more than 127 records is refused with 3, after
-all of it is read.
+text has lengths and no blanks, the next two are as long as a text can be, and one list of taxa is given at four lengths. A text
+of more than 127 records is refused with 3, after all of it is read.
 ";
 
 const COUNTS: [&str; 4] = ["64", "256", "1,024", "4,096"];

@@ -27,7 +27,7 @@ use Rattle.newick.specs.declared.reader.Answer.{Answer}
 use Rattle.newick.proofs.Answers.{layout-length}
 use Rattle.newick.proofs.Bounds.{layout-sized}
 use Rattle.newick.proofs.Pairing.{decides-pairs, pairs-once, priced}
-use Rattle.newick.proofs.Spelling.{parsed-sound, one-tree, unread-none}
+use Rattle.newick.proofs.Spelling.{parsed-sound, parsed-complete, one-tree, unread-none}
 
 -- the numbers told determine the answer
 pub told-determined : (a b : Answer) → told a ≡ told b → a ≡ b
@@ -78,6 +78,10 @@ module _ (c : Call) where
       go : (b : Bool) → eqb (judged c .number) 0 ≡ b → toldOf (pick b (accepted (countOf (parsed (c .text)))) (refused (judged c))) ≡ judged c
       go true e = sym (gives-passed judged-gives (eqb-true _ _ e))
       go false e = refl
+
+  -- rows 5 to 8 of the table are those of the outline of the tree that the text spells
+  pub table-spelled : (t : Tree part) → Spells t (c .text) → readTable c ≡ tableOf c (tree t)
+  table-spelled t s = ap (tableOf c) (parsed-complete t (c .text) s)
 
 -- ---- a tree that is read
 ten-not-zero : (pairs : List ℕ) (room : ℕ) → rowsFor unread pairs room .number ≡ 0 → ⊥

@@ -10,7 +10,7 @@ use Rattle.newick.specs.Reading.{nothing, ends}
 use Rattle.newick.specs.Inner.{ahead, before, Met}
 use Rattle.newick.specs.declared.token.Token.{Token}
 use Rattle.newick.proofs.token.Token.{the-type}
-use Rattle.newick.proofs.Passing.{met-is, met-shows}
+use Rattle.newick.proofs.Meeting.{met-is, met-shows}
 
 abbrev noEnd : List ℕ
 noEnd = 0 ∷ 1 ∷ 2 ∷ 3 ∷ 4 ∷ 5 ∷ 6 ∷ []

@@ -14,7 +14,7 @@ use Rattle.newick.specs.declared.part.Length.{Length}
 use Rattle.newick.specs.declared.part.Part.{Part}
 use Rattle.newick.specs.declared.token.Token.{Token}
 use Rattle.newick.proofs.token.Token.{the-type}
-use Rattle.newick.proofs.Passing.{met-is, met-shows}
+use Rattle.newick.proofs.Meeting.{met-is, met-shows}
 
 -- ---- the number after a colon
 abbrev pub noNumber : List ℕ

@@ -7,9 +7,9 @@ pub mod Endings
 pub mod Fields
 pub mod Grown
 pub mod Lengths
+pub mod Meeting
 pub mod Pairing
 pub mod Parts
-pub mod Passing
 pub mod Plates
 pub mod Ranges
 pub mod Rows

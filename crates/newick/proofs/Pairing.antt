@@ -77,29 +77,29 @@ module _ {pairs : List ℕ} (p : ℕ) {i : ℕ} (k : Unpriced pairs p i) where
 -- ---- how many pairs a plate has
 
 -- the pairs of a plate, counted up to place i
-pub record Counting (pairs : List ℕ) (p sum i : ℕ) : Type 0 where
+pub record Counted (pairs : List ℕ) (p sum i : ℕ) : Type 0 where
   pub high : i ≤ length pairs
   pub small : sum ≤ i
   pub whole : sum + pairsOf (drop i pairs) p ≡ pairsOf pairs p
 
-pub counting-starts : (pairs : List ℕ) (p : ℕ) → Counting pairs p 0 0
-counting-starts pairs p = record { high = omega arith; small = omega arith; whole = omega arith }
+pub counted-starts : (pairs : List ℕ) (p : ℕ) → Counted pairs p 0 0
+counted-starts pairs p = record { high = omega arith; small = omega arith; whole = omega arith }
 
-module _ {pairs : List ℕ} {p sum i : ℕ} (k : Counting pairs p sum i) where
+module _ {pairs : List ℕ} {p sum i : ℕ} (k : Counted pairs p sum i) where
   -- what a pair adds leaves the count in range
-  pub counting-most : sum + boolByte (eqb (getD pairs i 0) p) ≤ i + 1
-  counting-most = let b = eqb (getD pairs i 0) p in omega (arith, byte-one b, one-le b, k .small)
+  pub counted-most : sum + boolByte (eqb (getD pairs i 0) p) ≤ i + 1
+  counted-most = let b = eqb (getD pairs i 0) p in omega (arith, byte-one b, one-le b, k .small)
 
-  pub counting-goes : i + 1 < length pairs → Counting pairs p (sum + boolByte (eqb (getD pairs i 0) p)) (i + 2)
-  counting-goes h =
+  pub counted-goes : i + 1 < length pairs → Counted pairs p (sum + boolByte (eqb (getD pairs i 0) p)) (i + 2)
+  counted-goes h =
       let step : pairsOf (drop i pairs) p ≡ one (eqb (getD pairs i 0) p) + pairsOf (drop (i + 2) pairs) p =
       unfold pairsOf in rw (pair-at pairs i h) in
       let same = byte-one (eqb (getD pairs i 0) p) in
-      record { high = omega arith; small = omega (arith, counting-most); whole = omega (arith, k .whole) }
+      record { high = omega arith; small = omega (arith, counted-most); whole = omega (arith, k .whole) }
 
-  pub counting-ends : length pairs ≤ i + 1 → sum ≡ pairsOf pairs p
+  pub counted-ends : length pairs ≤ i + 1 → sum ≡ pairsOf pairs p
   unfolding pairsOf
-  counting-ends h = omega (arith, k .whole, few-left (λ xs. pairsOf xs p) refl (λ q. refl) pairs i h)
+  counted-ends h = omega (arith, k .whole, few-left (λ xs. pairsOf xs p) refl (λ q. refl) pairs i h)
 
 -- ---- taxa without a pair, and pairs without a taxon
 

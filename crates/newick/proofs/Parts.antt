@@ -20,7 +20,7 @@ use Rattle.newick.specs.declared.part.Members.{Members}
 use Rattle.newick.specs.declared.part.Part.{Part}
 use Rattle.newick.specs.declared.token.Token.{Token}
 use Rattle.newick.proofs.token.Token.{the-type}
-use Rattle.newick.proofs.Passing.{met-is, met-shows, begun-shows}
+use Rattle.newick.proofs.Meeting.{met-is, met-shows, begun-shows}
 use Rattle.newick.proofs.Rows.{count-some, own-drafted, last-drafted, list-drafted}
 use Rattle.newick.proofs.Tokens.{by-first}
 

@@ -24,7 +24,7 @@ use Rattle.newick.proofs.token.Token.{the-type}
 use Rattle.newick.proofs.Endings.{noSemicolon, after-semicolon, not-ended}
 use Rattle.newick.proofs.Lengths.{noColon, no-colon}
 use Rattle.newick.proofs.Parts.{noPart, no-part, noNext, no-next}
-use Rattle.newick.proofs.Passing.{met-is, met-shows}
+use Rattle.newick.proofs.Meeting.{met-is, met-shows}
 
 -- ---- open lists
 

@@ -6,7 +6,7 @@ use types.Run.{hit}
 use Rattle.newick.specs.declared.token.Token.{Token}
 use Rattle.newick.proofs.Endings.{noSemicolon}
 use Rattle.newick.proofs.Scanning.{inside-wants, inside-takes, outside-stray, follow-ends, follow-fails}
-use Rattle.newick.proofs.Passing.{met-is}
+use Rattle.newick.proofs.Meeting.{met-is}
 use Rattle.newick.proofs.scan.follow.Statement.{statement}
 use Rattle.newick.proofs.scan.follow.Tie as tie
 
