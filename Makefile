@@ -5,8 +5,9 @@
 # make examples  the two example programs on tree A
 # make scale     the library as it is linked, compared with independent code
 # make bench     times beside other tools; those that are not installed are left out
+# make bench-beside BESIDE=FILE   times beside another build, whose libplates.a is FILE
 # make test      the gate: everything
-.PHONY: run lib install uninstall examples scale bench test
+.PHONY: run lib install uninstall examples scale bench bench-beside test
 
 PREFIX ?= /usr/local
 LIBRARY := target/staticlib/libplates.a
@@ -39,7 +40,13 @@ scale: lib
 	bash tests/run
 
 bench: lib
+	$(CARGO) test --release --quiet --offline --manifest-path bench/Cargo.toml
 	$(CARGO) run --release --offline --manifest-path bench/Cargo.toml
+
+bench-beside: lib
+	$(if $(BESIDE),,$(error BESIDE is missing, the libplates.a of another build))
+	$(CC) -shared -o target/beside.so -Wl,--whole-archive "$(BESIDE)" -Wl,--no-whole-archive
+	$(CARGO) run --release --offline --manifest-path bench/Cargo.toml -- --beside target/beside.so
 
 test:
 	bash .ci/run

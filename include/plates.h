@@ -2,10 +2,10 @@
  * plates.h: the C interface of Plates.
  *
  * Plates chooses which species plates go into a field guide of a given page count, so that they show as much of the family
- * tree as the space allows. The caller hands over the tree with a length for each branch and a price for each plate, and a
- * page count. The library gives the best set of plates for that count, and for every smaller count the best that can be
- * reached. It is not a heuristic: among all the sets that fit, no other is better. In the literature the problem is called
- * phylogenetic diversity under a budget (Pardi and Goldman, Systematic Biology 56(3), 2007).
+ * tree as the space allows. The caller hands over the tree with a length for each branch, a price for each plate and for each
+ * group's heading, and a page count. The library gives the best set of plates for that count, and for every smaller count the
+ * best that can be reached. It is not a heuristic: among all the sets that fit, no other is better. In the literature the
+ * problem is called phylogenetic diversity under a budget (Pardi and Goldman, Systematic Biology 56(3), 2007).
  *
  *     plates_read     the outline of a tree in Newick form
  *     plates_check    whether an outline is sound, and if not what is wrong and where
@@ -18,6 +18,7 @@
  *
  *     taxon      a species with a plate
  *     group      a node of the tree with members below it: groups or taxa
+ *     heading    the block that a group has in the guide if a taxon below it is chosen; one of price 0 takes no space
  *     length     the length of the branch above a taxon or a group, a whole number
  *     quarter    a quarter page, the unit of prices and of page counts
  *     outline    the tree, as an array of records
@@ -32,7 +33,7 @@
  *     0 to 1    next     the next member under the same group, 0 for the last one; record 1: 0
  *     2 to 3    first    0                        the group's first member
  *     4 to 7    length   0 to 1,000,000           0 to 1,000,000
- *     8 to 11   price    0 to 65,535 quarters     0
+ *     8 to 11   price    0 to 65,535 quarters     0 to 65,535 quarters, of its heading
  *     12 to 15  plate    1 to 4,294,967,295       0
  *
  * So a record whose first is 0 is a taxon, and every other record is a group.
@@ -86,6 +87,9 @@
  *
  *     11 3   12 1   13 2
  *
+ * The form has no prices for headings: in the outline that is read the price of each group is 0, and the caller may write
+ * another there.
+ *
  * Records are numbered as their parts begin in the text: the root first, then its first member with all below it, and so on.
  *
  *
@@ -98,19 +102,25 @@
  *     PLATES_UNROOTED (way 1)   the lengths of all records with a chosen taxon at or below them and another one elsewhere.
  *                               This is the part of the tree that joins the chosen taxa to each other; for one taxon it is 0.
  *
- * The empty set has diversity 0 either way. The cost of a set is the sum of its prices, and a set fits a page count if its
- * cost is at most the count. Of two sets that fit, the better one is
+ * The empty set has diversity 0 either way.
+ *
+ * The cost of a set is the sum of the prices of all records that are, or have below them, a chosen taxon: the price of each
+ * chosen plate, and for each group with a chosen taxon below it the price of its heading, once. It is the same either way; the
+ * root's own heading counts. A set fits a page count if its cost is at most the count. Of two sets that fit, the better one is
  *
  *     1. the one with more diversity;
  *     2. at equal diversity the one that costs less;
  *     3. at equal cost too, the one that has the lowest-numbered taxon on which they differ.
  *
  * So there is exactly one best set for each outline, way and count, and every call gives it. A taxon of price 0 is always
- * chosen. The best set may be empty: that is a selection too, and not a refusal.
+ * chosen where all groups above it have price 0 too. The best set may be empty: that is a selection too, and not a refusal.
  *
  * In tree A with 5 quarters, rooted, the best set is plates 11 and 13: diversity 3 + 4 + 5 = 12, cost 3 + 2 = 5. For the
  * counts from 0 to 5 the best diversities are 0, 5, 5, 10, 10, 12, and their costs 0, 1, 1, 3, 3, 5. At count 2 that is plate
  * 12 (3 + 2 = 5 for 1 quarter) and not plate 13 (5 for 2 quarters).
+ *
+ * If group 2 had a heading of 2 quarters, plate 12 alone would cost 1 + 2 = 3, so that at count 2 plate 13 would be best. All
+ * three plates would cost 3 + 1 + 2 + 2 = 8, with the heading paid once.
  *
  *
  * WHAT THE CALLER HAS TO KEEP
@@ -220,7 +230,8 @@ enum plates_refusal {
     PLATES_TOO_MANY_RECORDS = 3,
     /* The page count is above 4,096; place 0. */
     PLATES_COUNT_TOO_LARGE = 4,
-    /* Length, price or plate is outside its range; place is the lowest such record. */
+    /* Length, price or plate is outside its range: a length above 1,000,000, a price above 65,535, a taxon's plate that is 0, or
+     * a group's that is not; place is the lowest such record. */
     PLATES_FIELD_OUT_OF_RANGE = 5,
     /* A link of the record is not 0 and not the number of a later record; or it is record 1 and its next is not 0; or it is
      * another record and no link names it, or more than one does. place is the lowest such record. */
@@ -247,7 +258,7 @@ enum plates_answer {
     PLATES_ANSWER_PLACE = 1,
     /* The diversity of the best set. This and all that follow are 0 for a refusal. */
     PLATES_ANSWER_DIVERSITY = 2,
-    /* Its cost in quarters. */
+    /* Its cost in quarters, headings included. */
     PLATES_ANSWER_COST = 3,
     /* The number of taxa in it. */
     PLATES_ANSWER_TAXA = 4,

@@ -30,6 +30,16 @@ impl Buffers {
     }
 }
 
+/// `plates_choose` of a build: outline, count, way, marks, curve and work are handed over, and the answer is given.
+pub type Choose<'a> = &'a dyn Fn(&[u8], u32, u32, &mut [u8], &mut [u32], &mut [u64]) -> [u32; 6];
+
+/// What a call gave: its answer, the marks, and the curve by columns.
+pub struct Outcome {
+    pub answer: [u32; 6],
+    pub marks: Vec<u8>,
+    pub columns: Vec<[u32; 2]>,
+}
+
 /// Whether a peer that may be slow is to run once more: five times in all, or once if that takes more than a second.
 fn few(times: &Times) -> bool {
     times.len() < 5 && times.shortest().is_none_or(|seconds| seconds < 1.0)
@@ -101,8 +111,12 @@ impl Case {
     }
 
     fn choose(&self, buffers: &mut Buffers) -> [u32; 6] {
+        self.choose_by(&library::choose, buffers)
+    }
+
+    fn choose_by(&self, choose: Choose, buffers: &mut Buffers) -> [u32; 6] {
         let [marks, curve, work] = self.needed();
-        library::choose(
+        choose(
             &self.outline,
             self.count,
             self.way,
@@ -112,7 +126,25 @@ impl Case {
         )
     }
 
-    fn compare<T: PartialEq + Debug>(&mut self, whose: &str, theirs: T, ours: T) {
+    /// The wall time of a call.
+    pub fn time_by(&self, choose: Choose, buffers: &mut Buffers) -> f64 {
+        let (answer, seconds) = timed(|| self.choose_by(choose, buffers));
+        black_box(answer);
+        seconds
+    }
+
+    pub fn outcome_by(&self, choose: Choose, buffers: &mut Buffers) -> Outcome {
+        let [marks, curve, _] = self.needed();
+        let answer = self.choose_by(choose, buffers);
+        let columns = buffers.curve[..curve].chunks(2);
+        Outcome {
+            answer,
+            marks: buffers.marks[..marks].to_vec(),
+            columns: columns.map(|column| [column[0], column[1]]).collect(),
+        }
+    }
+
+    pub fn compare<T: PartialEq + Debug>(&mut self, whose: &str, theirs: T, ours: T) {
         self.compared += 1;
         if theirs != ours {
             let case = format!("{}, way {}, count {}", self.name, self.way, self.count);
@@ -134,9 +166,7 @@ impl Case {
 
     /// A call, and then the clearing of as much of `work` as the call uses.
     pub fn measure(&mut self, buffers: &mut Buffers) {
-        let (answer, seconds) = timed(|| self.choose(buffers));
-        black_box(answer);
-        self.plates.add(seconds);
+        self.plates.add(self.time_by(&library::choose, buffers));
         let [_, _, work] = self.needed();
         let work = black_box(&mut buffers.work[..work]);
         let ((), seconds) = timed(|| work.fill(0));

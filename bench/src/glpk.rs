@@ -1,7 +1,9 @@
-//! GLPK's integer program on one budget: a variable x per taxon, chosen or not, and a variable y per branch, counted or not.
+//! GLPK's integer program on one budget: a variable x per taxon, chosen or not, a variable y per branch, counted or not, and
+//! where groups have prices a variable h per group, paid or not.
 
 use crate::times::timed;
 use crate::tree::{members, Tree};
+use plates_scale::outline;
 use std::fmt::Write;
 use std::fs;
 use std::path::Path;
@@ -53,33 +55,52 @@ pub fn run(folder: &Path) -> Result<Run, String> {
     Ok(Run { process, optimum })
 }
 
-/// A branch is counted only over a chosen taxon below it and, unrooted, one elsewhere. No length is negative,
-/// so y need not be declared whole: where all x are, the best y are.
+/// A branch is counted only over a chosen taxon below it and, unrooted, one elsewhere; a group is paid if one of its members is
+/// chosen or paid. No length or price is negative, so y and h need not be declared whole: where all x are, the best y and the
+/// least h are.
 fn model(tree: &Tree, count: u32, way: u32) -> String {
+    let groups = groups(tree);
     let mut text = String::from("Maximize\n obj:\n");
     for (number, record) in tree.records.iter().enumerate() {
         writeln!(text, " + {} y{number}", record.length).unwrap();
     }
     text += "Subject To\n";
+    count_branches(&mut text, tree, way);
+    pay_groups(&mut text, tree, &groups);
+    text += " cost:\n";
+    for &number in tree.taxa.iter().chain(&groups) {
+        let price = tree.records[number].price;
+        writeln!(text, " + {price} {}", paid(tree, number)).unwrap();
+    }
+    writeln!(text, " <= {count}").unwrap();
+    declare(&mut text, tree, &groups);
+    text + "End\n"
+}
+
+/// The groups that have a variable: all, or none where all are free.
+fn groups(tree: &Tree) -> Vec<usize> {
+    let numbers = 0..tree.records.len();
+    numbers
+        .filter(|&number| tree.has_headings() && !tree.records[number].is_taxon())
+        .collect()
+}
+
+/// The variable that says whether a record is paid.
+fn paid(tree: &Tree, number: usize) -> String {
+    if tree.records[number].is_taxon() {
+        format!("x{}", tree.below[number].trailing_zeros())
+    } else {
+        format!("h{number}")
+    }
+}
+
+fn count_branches(text: &mut String, tree: &Tree, way: u32) {
     for (number, &below) in tree.below.iter().enumerate() {
-        limit(&mut text, number, below);
+        limit(text, number, below);
         if way == 1 {
-            limit(&mut text, number, tree.all() & !below);
+            limit(text, number, tree.all() & !below);
         }
     }
-    text += " cost:\n";
-    for taxon in 0..tree.taxa.len() {
-        writeln!(text, " + {} x{taxon}", tree.price(taxon)).unwrap();
-    }
-    writeln!(text, " <= {count}\nBounds").unwrap();
-    for number in 0..tree.records.len() {
-        writeln!(text, " 0 <= y{number} <= 1").unwrap();
-    }
-    text += "Binary\n";
-    for taxon in 0..tree.taxa.len() {
-        writeln!(text, " x{taxon}").unwrap();
-    }
-    text + "End\n"
 }
 
 /// y is at most the number of chosen taxa in the set.
@@ -91,6 +112,29 @@ fn limit(text: &mut String, number: usize, set: u64) {
     text.push_str(" <= 0\n");
 }
 
+/// h is at least what says that a member is paid.
+fn pay_groups(text: &mut String, tree: &Tree, groups: &[usize]) {
+    for &group in groups {
+        for member in outline::members(&tree.records, group) {
+            writeln!(text, " {} - h{group} <= 0", paid(tree, member)).unwrap();
+        }
+    }
+}
+
+fn declare(text: &mut String, tree: &Tree, groups: &[usize]) {
+    *text += "Bounds\n";
+    for number in 0..tree.records.len() {
+        writeln!(text, " 0 <= y{number} <= 1").unwrap();
+    }
+    for group in groups {
+        writeln!(text, " 0 <= h{group} <= 1").unwrap();
+    }
+    *text += "Binary\n";
+    for taxon in 0..tree.taxa.len() {
+        writeln!(text, " x{taxon}").unwrap();
+    }
+}
+
 /// From the solution's line `s mip ROWS COLUMNS STATUS OPTIMUM`, where status o means proved to be the best.
 fn optimum(text: &str) -> Option<Option<u64>> {
     let line = text.lines().find_map(|line| line.strip_prefix("s mip "))?;
@@ -100,4 +144,69 @@ fn optimum(text: &str) -> Option<Option<u64>> {
     };
     let value: f64 = value.parse().ok()?;
     Some((status == "o").then_some(value.round() as u64))
+}
+
+#[cfg(test)]
+mod tests {
+    use super::*;
+    use plates_scale::cases::tree_a;
+
+    fn lines(text: &str) -> Vec<&str> {
+        text.lines().map(str::trim).collect()
+    }
+
+    #[test]
+    fn model_of_tree_a_with_headings() {
+        let mut records = tree_a();
+        (records[0].price, records[1].price) = (1, 2);
+        let text = model(&Tree::new(&records), 6, 1);
+        let expected = "Maximize
+            obj:
+            + 0 y0
+            + 3 y1
+            + 4 y2
+            + 2 y3
+            + 5 y4
+            Subject To
+            y0 - x0 - x1 - x2 <= 0
+            y0 <= 0
+            y1 - x0 - x1 <= 0
+            y1 - x2 <= 0
+            y2 - x0 <= 0
+            y2 - x1 - x2 <= 0
+            y3 - x1 <= 0
+            y3 - x0 - x2 <= 0
+            y4 - x2 <= 0
+            y4 - x0 - x1 <= 0
+            h1 - h0 <= 0
+            x2 - h0 <= 0
+            x0 - h1 <= 0
+            x1 - h1 <= 0
+            cost:
+            + 3 x0
+            + 1 x1
+            + 2 x2
+            + 1 h0
+            + 2 h1
+            <= 6
+            Bounds
+            0 <= y0 <= 1
+            0 <= y1 <= 1
+            0 <= y2 <= 1
+            0 <= y3 <= 1
+            0 <= y4 <= 1
+            0 <= h0 <= 1
+            0 <= h1 <= 1
+            Binary
+            x0
+            x1
+            x2
+            End";
+        assert_eq!(lines(&text), lines(expected));
+    }
+
+    #[test]
+    fn without_headings_no_group_has_a_variable() {
+        assert!(!model(&Tree::new(&tree_a()), 6, 0).contains('h'));
+    }
 }

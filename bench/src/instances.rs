@@ -1,5 +1,6 @@
 //! The outlines that are measured: shapes with branch lengths and prices drawn from a fixed seed, and case G.
 
+use plates_scale::headings;
 use plates_scale::outline::Record;
 use plates_scale::random::Random;
 use plates_scale::shapes;
@@ -13,6 +14,7 @@ const TAXA: usize = 64;
 const LEVELS: u32 = 6;
 /// 64 prices of 1 to 127 come to about 4,096.
 const DEAREST: u32 = 127;
+const DEAREST_HEADING: u32 = 31;
 
 pub struct Instance {
     pub name: String,
@@ -26,6 +28,8 @@ pub fn shapes_at_full_size() -> Vec<Instance> {
         .map(|seed| drawn(&format!("random {seed}"), random(TAXA, seed), seed, DEAREST))
         .collect();
     list.push(drawn("random 1, dear", random(TAXA, 1), 4, 2 * DEAREST + 1));
+    let headings = drawn("random 1, headings", random(TAXA, 1), 1, DEAREST);
+    list.push(with_headings(headings, 9));
     list.push(drawn("balanced", shapes::balanced(LEVELS), 5, DEAREST));
     list.push(case_g());
     let caterpillar = shapes::caterpillar_taxon_first(TAXA);
@@ -66,6 +70,13 @@ fn drawn(name: &str, mut records: Vec<Record>, seed: u64, dearest: u32) -> Insta
         records,
         count: COUNT,
     }
+}
+
+/// Gives every group a price of 1 to the dearest.
+fn with_headings(mut instance: Instance, seed: u64) -> Instance {
+    let price = |random: &mut Random| 1 + random.up_to(DEAREST_HEADING - 1);
+    headings::fill(&mut instance.records, &mut Random::new(seed), price);
+    instance
 }
 
 /// Document 01's case G: six levels of pairs, every length 1, every price 64, count 4,095.

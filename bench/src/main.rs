@@ -1,6 +1,8 @@
 //! Measures `plates_choose` beside clearing `work`, IQ-TREE 2, GLPK and two tables in Rust, and `plates_read` beside a plain
-//! reader in Rust, and prints the times in Markdown.
+//! reader in Rust, and prints the times in Markdown. With `--beside` it measures `plates_choose` beside another build's instead,
+//! to see what a change costs.
 
+mod beside;
 mod case;
 mod glpk;
 mod instances;
@@ -14,6 +16,7 @@ mod scratch;
 mod times;
 mod tree;
 
+use beside::Build;
 use case::{Buffers, Case};
 use instances::COUNT;
 use reading::Reading;
@@ -22,7 +25,11 @@ use scratch::Scratch;
 use std::path::Path;
 use std::process::ExitCode;
 
-const USAGE: &str = "bench [--quick]\n  --quick  fewer runs, without GLPK and the tables";
+const USAGE: &str = "\
+bench [--quick | --beside FILE]
+  --quick        fewer runs, without GLPK and the tables
+  --beside FILE  only plates_choose beside that of another build, FILE being a shared object;
+                 `make bench-beside BESIDE=libplates.a` makes one of a static library and runs this";
 const RECORDS: usize = 127;
 const COUNTS: [u32; 3] = [64, 256, 1_024];
 
@@ -35,28 +42,27 @@ struct Plan {
 }
 
 impl Plan {
-    fn from_arguments() -> Option<Plan> {
-        let arguments: Vec<String> = std::env::args().skip(1).collect();
-        let quick = match arguments.iter().map(String::as_str).collect::<Vec<_>>()[..] {
-            [] => false,
-            ["--quick"] => true,
-            _ => return None,
-        };
-        let rounds = if quick { 3 } else { 25 };
-        Some(Plan {
-            rounds,
+    fn new(quick: bool) -> Plan {
+        Plan {
+            rounds: if quick { 3 } else { 25 },
             calls: 10,
             quick,
-        })
+        }
     }
 }
 
 fn main() -> ExitCode {
-    let Some(plan) = Plan::from_arguments() else {
-        eprintln!("{USAGE}");
-        return ExitCode::from(2);
+    let arguments: Vec<String> = std::env::args().skip(1).collect();
+    let done = match arguments.iter().map(String::as_str).collect::<Vec<_>>()[..] {
+        [] => run(&Plan::new(false)),
+        ["--quick"] => run(&Plan::new(true)),
+        ["--beside", file] => run_beside(Path::new(file)),
+        _ => {
+            eprintln!("{USAGE}");
+            return ExitCode::from(2);
+        }
     };
-    match run(&plan) {
+    match done {
         Ok(()) => ExitCode::SUCCESS,
         Err(message) => {
             eprintln!("{message}");
@@ -82,6 +88,13 @@ fn run(plan: &Plan) -> Result<(), String> {
     let readings = measure_readings(plan);
     print(plan, &groups, &sizes);
     report::readings(&readings);
+    Ok(())
+}
+
+fn run_beside(file: &Path) -> Result<(), String> {
+    let build = Build::load(file)?;
+    println!("Machine: {}\n", machine::description());
+    report::builds(&beside::pairs(&build));
     Ok(())
 }
 
@@ -123,7 +136,7 @@ fn measure(
         eprintln!("round {round} of {}", plan.rounds);
         for case in groups.iter_mut().flatten() {
             (0..plan.calls).for_each(|_| case.measure(buffers));
-            if iqtree {
+            if iqtree && !case.tree.has_headings() {
                 case.run_iqtree(scratch)?;
             }
         }

@@ -3,11 +3,12 @@
 
 use plates_scale::outline::{members, taxa, Record, UNROOTED};
 use plates_scale::table::Best;
+use std::iter::repeat_n;
 
 /// The worth of the best nonempty set for each budget.
 type Row = Vec<i128>;
 
-/// No set. The sum of two stays below every set's worth and above the least number.
+/// No set: so far down that with whatever is added it stays below every set's worth, and that two can be added.
 const NONE: i128 = i128::MIN / 4;
 
 /// A cost is below 2 to this power.
@@ -60,11 +61,21 @@ impl Clade {
         }
     }
 
-    fn charge(&mut self, length: u32) {
-        for worth in self.rooted.iter_mut().filter(|worth| **worth > NONE) {
-            *worth += i128::from(length) << (COST_BITS + 64);
+    /// With the group's branch and price.
+    fn charged(&self, group: &Record) -> Clade {
+        Clade {
+            rooted: moved(&self.rooted, group.length, group.price),
+            unrooted: moved(&self.unrooted, 0, group.price),
         }
     }
+}
+
+/// Each set with a branch and a price more, and so at a budget that is greater by the price.
+fn moved(row: &Row, length: u32, price: u32) -> Row {
+    let charge = worth(length, price, 0);
+    let charged = row.iter().map(|worth| worth + charge);
+    let too_dear = repeat_n(NONE, price as usize);
+    too_dear.chain(charged).take(row.len()).collect()
 }
 
 fn pick(fits: bool, worth: i128) -> i128 {
@@ -116,9 +127,67 @@ fn clade(records: &[Record], position: usize, count: usize) -> Clade {
     }
     let members = members(records, position).into_iter();
     let clades = members.map(|member| clade(records, member, count));
-    let mut joined = clades
-        .reduce(|one, other| one.joined(&other))
-        .expect("a member");
-    joined.charge(record.length);
-    joined
+    let joined = clades.reduce(|one, other| one.joined(&other));
+    joined.expect("a member").charged(record)
+}
+
+#[cfg(test)]
+mod tests {
+    use super::*;
+    use crate::tree::Tree;
+    use plates_scale::cases::tree_a;
+    use plates_scale::outline::ROOTED;
+    use plates_scale::random::Random;
+    use plates_scale::shapes;
+    use std::cmp::Reverse;
+
+    /// By trying every set of taxa.
+    fn tried(tree: &Tree, way: u32, count: u32) -> Best {
+        let taxa = tree.taxa.len();
+        let sets = (0..1u64 << taxa).map(|set| set << (64 - taxa));
+        let bests = sets.map(|set| {
+            let chosen = tree.in_walk_order(set);
+            let (diversity, cost) = (tree.diversity(chosen, way), tree.cost(chosen));
+            Best {
+                diversity: diversity as u32,
+                cost: cost as u32,
+                set,
+            }
+        });
+        let fitting = bests.filter(|best| best.cost <= count);
+        fitting
+            .max_by_key(|best| (best.diversity, Reverse(best.cost), best.set))
+            .expect("the empty set fits")
+    }
+
+    #[test]
+    fn gives_the_best_set_of_every_count() {
+        let random = &mut Random::new(1);
+        for _ in 0..500 {
+            let mut records = shapes::random_outline(1 + random.index(6), 12, random);
+            shapes::fill_randomly(&mut records, 20, random);
+            for group in records.iter_mut().filter(|record| !record.is_taxon()) {
+                group.price = random.pick(&[0, 0, 1, 2, 3, 25, 65_535]);
+            }
+            let tree = Tree::new(&records);
+            for way in [ROOTED, UNROOTED] {
+                let expected: Vec<Best> = (0..=20).map(|count| tried(&tree, way, count)).collect();
+                assert_eq!(optima(&records, way, 20), expected, "{records:?}");
+            }
+        }
+    }
+
+    #[test]
+    fn headings_of_tree_a_are_paid_once() {
+        let mut records = tree_a();
+        (records[0].price, records[1].price) = (1, 2);
+        let curve = |way| -> Vec<[u32; 2]> {
+            let best = optima(&records, way, 9).into_iter();
+            best.map(|best| [best.diversity, best.cost]).collect()
+        };
+        let both = [[10, 6], [10, 6], [12, 8], [14, 9]];
+        let rooted = [[0, 0], [0, 0], [0, 0], [5, 3], [5, 3], [5, 3]];
+        assert_eq!(curve(ROOTED), [&rooted[..], &both].concat());
+        assert_eq!(curve(UNROOTED), [&[[0, 0]; 6][..], &both].concat());
+    }
 }

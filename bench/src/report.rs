@@ -1,5 +1,6 @@
 //! The tables and lines that are printed, in Markdown.
 
+use crate::beside::Pair;
 use crate::case::Case;
 use crate::glpk;
 use crate::reading::{agreement as agreement_of, Reading};
@@ -19,7 +20,7 @@ Milliseconds for 64 taxa: 127 records (star: 65), count 4,096 (case G: 4,095).
 
 - plates gives the optimum of every count from 0 to the given one, and the set; IQ-TREE and GLPK solve one budget.
 - Lengths are random up to 1,000 and prices up to 127 (dear: 255), all taxa together dearer than 4,096. In case G every
-  length is 1 and every price 64.
+  length is 1 and every price 64. \"headings\" is random 1 with a price of 1 to 31 for every group; IQ-TREE has no such prices.
 - plates and the clearing of `work` are wall time, called in turn; their ratio is that of the shortest times.
 - IQ-TREE's median is of its own figure, to the microsecond: user time of the search alone. Linux may split
   the time of a process into user and system time by what runs at a clock tick, so the figure of a search of 7 ms can be
@@ -42,6 +43,11 @@ Microseconds. The plain reader is Rust and goes over the text once, with a stack
 refusals, and the check of the outline is that of plates. Both are called in turn; the ratio is that of the medians. The first
 text has lengths and no blanks, the next two are as long as a text can be, and one list of taxa is given at four lengths. A text
 of more than 127 records is refused with 3, after all of it is read.
+";
+
+const BUILDS: &str = "\
+Microseconds for `plates_choose`. Both builds are called in turn on the same buffers. The ratios are of this build's times to the
+other's. An outline with headings is left out where the other build refuses it.
 ";
 
 const COUNTS: [&str; 4] = ["64", "256", "1,024", "4,096"];
@@ -106,7 +112,7 @@ fn row(case: &Case, missing: &Missing) -> Vec<String> {
         in_milliseconds(case.clearing.shortest()),
         ratio(case.plates.shortest(), case.clearing.shortest()),
     ];
-    row.push(or_missing(search.median(), missing.iqtree));
+    row.push(iqtree_cell(case, missing));
     row.push(ratio(search.median(), median));
     row.push(in_milliseconds(case.iqtree.beyond_empty()));
     row.push(glpk_cell(case, missing));
@@ -120,6 +126,13 @@ fn row(case: &Case, missing: &Missing) -> Vec<String> {
 
 fn or_missing(seconds: Option<f64>, missing: &str) -> String {
     seconds.map_or(missing.to_string(), milliseconds)
+}
+
+fn iqtree_cell(case: &Case, missing: &Missing) -> String {
+    if case.tree.has_headings() {
+        return "no headings".to_string();
+    }
+    or_missing(case.iqtree.search.median(), missing.iqtree)
 }
 
 fn glpk_cell(case: &Case, missing: &Missing) -> String {
@@ -200,7 +213,9 @@ pub fn worst(cases: &[&Case]) {
     for (way, name) in WAYS.iter().enumerate() {
         let mut of_way = cases.to_vec();
         of_way.retain(|case| case.way as usize == way);
-        beside_iqtree(&of_way, name);
+        let mut known_to_iqtree = of_way.clone();
+        known_to_iqtree.retain(|case| !case.tree.has_headings());
+        beside_iqtree(&known_to_iqtree, name);
         beside_clearing(&of_way, name);
     }
 }
@@ -276,5 +291,49 @@ fn reading_row(reading: &Reading) -> Vec<String> {
     ];
     row.extend(times.map(|time| time.map_or(String::new(), microseconds)));
     row.push(ratio(plates.median(), plain.median()));
+    row
+}
+
+/// A ratio near 1.
+fn thousandths(one: Option<f64>, other: Option<f64>) -> String {
+    one.zip(other)
+        .map_or(String::new(), |(one, other)| format!("{:.3}", one / other))
+}
+
+pub fn builds(pairs: &[Pair]) {
+    println!("### Beside another build\n\n{BUILDS}");
+    let head = words([
+        "shape",
+        "way",
+        "count",
+        "other shortest",
+        "other median",
+        "this shortest",
+        "this median",
+        "this / other, shortest",
+        "this / other, medians",
+    ]);
+    let measured = pairs.iter().filter(|pair| !pair.refused);
+    let rows: Vec<_> = measured.map(pair_row).collect();
+    print_table(&head, &rows);
+    agreement(pairs.iter().map(|pair| &pair.case));
+}
+
+fn pair_row(pair: &Pair) -> Vec<String> {
+    let (other, this) = (&pair.other, &pair.linked);
+    let times = [
+        other.shortest(),
+        other.median(),
+        this.shortest(),
+        this.median(),
+    ];
+    let mut row = vec![
+        pair.case.name.clone(),
+        way(&pair.case),
+        pair.case.count.to_string(),
+    ];
+    row.extend(times.map(|time| time.map_or(String::new(), microseconds)));
+    row.push(thousandths(this.shortest(), other.shortest()));
+    row.push(thousandths(this.median(), other.median()));
     row
 }

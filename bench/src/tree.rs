@@ -1,5 +1,6 @@
 //! A tree read from an outline's records: the taxa below each record, and the diversity and cost of a set of taxa.
 
+use plates_scale::headings;
 use plates_scale::outline::{self, Record};
 
 /// Taxa are numbered from 0 in the order of a depth-first walk, so that each clade is a run of neighbours.
@@ -52,8 +53,16 @@ impl Tree {
         counted.map(|(record, _)| u64::from(record.length)).sum()
     }
 
+    /// The prices of the chosen taxa and of the groups above them.
     pub fn cost(&self, set: u64) -> u64 {
-        members(set).map(|taxon| u64::from(self.price(taxon))).sum()
+        let records = self.records.iter().zip(&self.below);
+        let paid = records.filter(|(_, &below)| below & set != 0);
+        paid.map(|(record, _)| u64::from(record.price)).sum()
+    }
+
+    /// Whether a group has a price.
+    pub fn has_headings(&self) -> bool {
+        headings::has_any(&self.records)
     }
 
     /// The set of the taxa whose records are marked.

@@ -49,7 +49,8 @@ impl Choice {
         self.diversity
     }
 
-    /// The sum of the chosen taxa's prices, in quarter pages.
+    /// What the chosen set costs, in quarter pages: the prices of the chosen taxa, and the price of
+    /// each group that has one of them below it, once.
     #[must_use]
     pub fn cost(&self) -> u32 {
         self.cost
@@ -141,6 +142,10 @@ impl Outline {
 }
 
 /// Chooses the best taxa of an outline for a page count.
+///
+/// A set of taxa costs the sum of the prices of all records that are, or have below them, a chosen
+/// taxon: so each group with a chosen taxon below it is paid once, the root included, whatever the
+/// way.
 ///
 /// The best set is the one with the most diversity among those that cost no more than the count; at
 /// equal diversity the one that costs less; at equal cost too, the one that has the lowest-numbered

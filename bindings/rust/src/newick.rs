@@ -22,7 +22,8 @@ impl Outline {
     /// points. The text has at most [`MOST_TEXT_LEN`] bytes.
     ///
     /// Prices are pairs, plate and price in quarter pages, in any order: one for each taxon, and
-    /// none for other plates.
+    /// none for other plates. Headings have no prices here: the price of each group is 0. A tree
+    /// whose headings take space is built with [`Tree::headed_group`](crate::Tree::headed_group).
     ///
     /// The records of the outline are numbered as their parts begin in the text.
     ///

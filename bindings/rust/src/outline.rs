@@ -22,7 +22,7 @@ pub struct Record {
     pub first: u32,
     /// The length of the branch above.
     pub length: u32,
-    /// A taxon's price in quarter pages; 0 for a group.
+    /// The price in quarter pages: of a taxon's plate, or of a group's heading.
     pub price: u32,
     /// A taxon's plate; 0 for a group.
     pub plate: u32,
@@ -65,7 +65,7 @@ impl Record {
 /// | 0 to 1 | next | record of the next member under the same group, 0 for the last one |
 /// | 2 to 3 | first | record of the group's first member; 0 makes the record a taxon |
 /// | 4 to 7 | length | of the branch above, 0 to 1,000,000 |
-/// | 8 to 11 | price | a taxon 0 to 65,535, a group 0 |
+/// | 8 to 11 | price | of a taxon's plate or of a group's heading, 0 to 65,535 |
 /// | 12 to 15 | plate | a taxon 1 to 4,294,967,295, no two alike; a group 0 |
 ///
 /// There are 1 to 127 records and at most 64 taxa. A link (next or first) that isn't 0 names a

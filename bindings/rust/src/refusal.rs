@@ -4,7 +4,8 @@ use std::error::Error;
 use std::fmt;
 
 /// Why an outline, a text or a call is refused. Where several reasons hold, the first in this order
-/// is given; reading a text has an [order](crate::Outline::from_newick#errors) of its own.
+/// is given; reading a text has an order of its own, which
+/// [`Outline::from_newick`](crate::Outline::from_newick) says.
 ///
 /// The library's table of refusals grows: later versions add numbers from 12 on. So a `match` has
 /// an arm for the rest, and a number that these bindings do not know is a refusal all the same, as
@@ -35,7 +36,8 @@ pub enum Refusal {
     TooManyRecords,
     /// 4: the page count is above 4,096.
     CountTooLarge,
-    /// 5: a length, price or plate is outside its range.
+    /// 5: a length, price or plate is outside its range: a length above 1,000,000, a price above
+    /// 65,535, a taxon's plate that is 0, or a group's that is not.
     FieldOutOfRange {
         /// The lowest such record, from 1.
         record: u32,

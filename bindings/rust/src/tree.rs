@@ -37,6 +37,7 @@ pub struct Tree {
 struct Node {
     kind: Kind,
     length: u32,
+    price: u32,
     // how many nodes are below
     below: u32,
     // whether it is the last member of its group, or the root
@@ -46,7 +47,7 @@ struct Node {
 #[derive(Clone, Copy, Debug, PartialEq)]
 enum Kind {
     Group,
-    Taxon { price: u32, plate: u32 },
+    Taxon { plate: u32 },
 }
 
 // A tree that is too large is cut down to one node more than an outline can have: enough to be
@@ -55,11 +56,13 @@ const MOST_NODES: usize = MOST_RECORDS + 1;
 
 impl Tree {
     /// A taxon with a plate (1 or more), the length of the branch above it (at most 1,000,000), and
-    /// its price in quarter pages (at most 65,535). One of price 0 is always chosen.
+    /// its price in quarter pages (at most 65,535). One of price 0 is always chosen where all groups
+    /// above it have price 0 too.
     pub fn taxon(plate: u32, length: u32, price: u32) -> Tree {
         let node = Node {
-            kind: Kind::Taxon { price, plate },
+            kind: Kind::Taxon { plate },
             length,
+            price,
             below: 0,
             last: true,
         };
@@ -67,11 +70,32 @@ impl Tree {
     }
 
     /// A group with the length of the branch above it (at most 1,000,000), and its members, one or
-    /// more.
+    /// more. Its heading takes no space: its price is 0.
     pub fn group(length: u32, members: impl IntoIterator<Item = Tree>) -> Tree {
+        Tree::headed_group(length, 0, members)
+    }
+
+    /// A group whose heading takes space: with the length of the branch above it (at most
+    /// 1,000,000), the price of its heading in quarter pages (at most 65,535), and its members, one
+    /// or more. A set that has taxa below the group pays for the heading once.
+    ///
+    /// ```
+    /// use plates::{Tree, Way};
+    ///
+    /// let family = Tree::headed_group(3, 2, [Tree::taxon(11, 4, 3), Tree::taxon(12, 2, 1)]);
+    /// let outline = Tree::group(0, [family, Tree::taxon(13, 5, 2)]).outline()?;
+    ///
+    /// let all = outline.choose(8, Way::Rooted)?;
+    /// assert_eq!((all.taxa().len(), all.cost()), (3, 2 + 3 + 1 + 2));
+    /// let none_of_the_family = outline.choose(2, Way::Rooted)?;
+    /// assert_eq!(none_of_the_family.taxa(), [outline.find(13).unwrap()]);
+    /// # Ok::<(), Box<dyn std::error::Error>>(())
+    /// ```
+    pub fn headed_group(length: u32, price: u32, members: impl IntoIterator<Item = Tree>) -> Tree {
         let mut nodes = vec![Node {
             kind: Kind::Group,
             length,
+            price,
             below: 0,
             last: true,
         }];
@@ -137,15 +161,15 @@ impl Node {
         } else {
             number + self.below + 1
         };
-        let (first, price, plate) = match self.kind {
-            Kind::Group => (number + 1, 0, 0),
-            Kind::Taxon { price, plate } => (0, price, plate),
+        let (first, plate) = match self.kind {
+            Kind::Group => (number + 1, 0),
+            Kind::Taxon { plate } => (0, plate),
         };
         let mut bytes = [0; RECORD_BYTES];
         bytes[0..2].copy_from_slice(&next.to_le_bytes()[..2]);
         bytes[2..4].copy_from_slice(&first.to_le_bytes()[..2]);
         bytes[4..8].copy_from_slice(&self.length.to_le_bytes());
-        bytes[8..12].copy_from_slice(&price.to_le_bytes());
+        bytes[8..12].copy_from_slice(&self.price.to_le_bytes());
         bytes[12..16].copy_from_slice(&plate.to_le_bytes());
         bytes
     }

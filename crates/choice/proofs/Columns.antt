@@ -53,6 +53,20 @@ module _ (d c : ℕ → ℕ) where
   pub drawing-ends : {n b : ℕ} {buffer now : List ℕ} → Drawing n buffer now b → n ≤ b → now ≡ over (columns d c (from 0 n)) buffer
   drawing-ends {n} h l = rising-ends h (omega (arith, columns-long 0 n))
 
+-- columns that agree up to n
+pub alike-ext : (f g : ℕ → ℕ) (d n : ℕ) → ((b : ℕ) → b < n → f b ≡ g b) → columnsAlike f d n ≡ columnsAlike g d n
+unfolding columnsAlike
+alike-ext f g d zero h = refl
+alike-ext f g d (suc n) h = rw (h n (omega arith), alike-ext f g d n (λ b l. h b (omega arith)))
+
+pub columns-ext : (d c e f : ℕ → ℕ) (k n : ℕ) → ((b : ℕ) → b < k + n → (d b ≡ e b) × (c b ≡ f b))
+    → columns d c (from k n) ≡ columns e f (from k n)
+unfolding columns from
+columns-ext d c e f k zero h = refl
+columns-ext d c e f k (suc n) h =
+    let same = h k (omega arith) in
+    rw (same .0, same .1, columns-ext d c e f (k + 1) n (λ b l. h b (omega arith)))
+
 -- a loop's invariant: the columns from b up to n have diversity d
 pub record Level (curve : ℕ → ℕ) (d n b : ℕ) : Type 0 where
   pub most : b ≤ n

@@ -1,5 +1,5 @@
 -- The mission's three demands, for every call: what the contract of `choose` says of the answer and the buffers is what they ask.
-use Prim.Native.Nat.{ℕ, _-_, _≤_}
+use Prim.Native.Nat.{ℕ, _+_, _-_, _≤_}
 use mathlib.Core.Path.{_≡_, refl, sym, ap, _∙_}
 use mathlib.Core.Bool.{Bool, true, false}
 use mathlib.Core.List.{List, [], _∷_}
@@ -12,14 +12,16 @@ use Rattle.refusals.specs.Table.{Gives}
 use Rattle.refusals.proofs.Refusals.{refusal-numbered, refusal-determined}
 use Rattle.refusals.proofs.Tests.{decides-less, decides-either}
 use Rattle.refusals.proofs.Tables.{gives-then, gives-passed, gives-whole, gives-way}
-use Rattle.outline.specs.Outline.{size, price, isTaxon}
+use Rattle.outline.specs.Outline.{size, isTaxon}
 use Rattle.outline.proofs.Tables.{sizes-give, records-give}
 use Rattle.diversity.specs.Diversity.{chosen}
+use Rattle.diversity.specs.Headings.{pricesChosen, headingsOpened, Free}
 use Rattle.diversity.specs.Search.{optimum, bestDiversity, leastCost}
 use Rattle.diversity.specs.Paths.{SubtreeLength, Ends}
 use Rattle.laws.proofs.Optimum.{search-ends, optimum-set, optimum-fits, others-behind, greatest-diversity, least-cost}
 use Rattle.laws.proofs.Spare.{spare-left}
 use Rattle.laws.proofs.Subtrees.{diversity-subtree}
+use Rattle.laws.proofs.Headings.{cost-opened}
 use Rattle.laws.proofs.Free.{free-chosen}
 use Rattle.choice.specs.Answer.{Call, Reply, Answered, toldOf, othersOf, refused, told, mostCount, tooShort, judged, isSelected}
 use Rattle.choice.specs.Answer.{bestSet, selected, reply, curveOf, diversityAt, costAt, marksAfter, curveAfter, workAfter}
@@ -114,6 +116,10 @@ module _ (c : Call) {r : Reply} {marks curve work : List ℕ} (x : Answered c r 
     pub demand-2-subtree : SubtreeLength (c .outline) (Ends (c .outline) (c .way) (markedSet c marks)) (r .diversity)
     demand-2-subtree = rw (demand-2 .diversity-true) (diversity-subtree _ (selected-solvable c picked .kept .linked) _ _)
 
+    -- and in the request's words: the marked taxa's prices, and the price of each group that has one of them below it
+    pub demand-2-headings : r .cost ≡ pricesChosen (c .outline) (markedSet c marks) + headingsOpened (c .outline) (markedSet c marks)
+    demand-2-headings = demand-2 .cost-true ∙ rw marked-is (cost-opened _ _ (optimum-set (c .outline) (c .way) (c .count)))
+
     shown-diversity : (b : ℕ) → b ≤ c .count → diversityAt curve b ≡ bestDiversity (c .outline) (c .way) b
     shown-diversity b h = rw curve-is (curve-diversity c (c .curve) b h)
 
@@ -155,7 +161,7 @@ module _ (c : Call) {r : Reply} {marks curve work : List ℕ} (x : Answered c r 
     unfolding selected leastCost
     spare-is-left = rw told-is (spare-left (c .outline) (c .way) (c .count))
 
-    -- a taxon of price 0 is always marked
-    pub free-marked : (r : ℕ) → 1 ≤ r → r ≤ size (c .outline) → isTaxon (c .outline) r ≡ true → price (c .outline) r ≡ 0
+    -- a free taxon is always marked where the headings above it are free too
+    pub free-marked : (r : ℕ) → 1 ≤ r → r ≤ size (c .outline) → isTaxon (c .outline) r ≡ true → Free (c .outline) r
         → chosen (markedSet c marks) r ≡ true
     free-marked r l u t e = rw marked-is (free-chosen (c .outline) (c .way) (c .count) r l u t e)

@@ -1,6 +1,6 @@
 -- A filled table read out: its top row is the curve, and its last column the best set.
 use Prim.Native.Nat.{ℕ, zero, suc, _+_, _*_, _-_, _/_, _%_, _≤_, _<_}
-use mathlib.Core.Path.{_≡_, refl, ap, _∙_}
+use mathlib.Core.Path.{_≡_, ap, _∙_}
 use mathlib.Core.Bool.{Bool, true, false, _&&_}
 use mathlib.Core.List.{List}
 use native.Mathlib.Omega.{arith}
@@ -26,7 +26,7 @@ use Rattle.table.specs.declared.candidate.Candidate.{Candidate}
 use Rattle.choice.specs.Answer.{Call, Reply, bestSet, selected, columns, curveOf, diversityAt, costAt}
 use Rattle.choice.specs.Inner.{topDiversity, topCost, Drawable, Solvable, Solved}
 use Rattle.choice.specs.declared.answer.Answer.{Answer}
-use Rattle.choice.proofs.Columns.{columns-long, column-diversity, column-cost}
+use Rattle.choice.proofs.Columns.{columns-long, column-diversity, column-cost, columns-ext, alike-ext}
 
 -- ---- how large the numbers are
 pick-most : (b : Bool) (n : ℕ) → pick b n 0 ≤ n
@@ -53,20 +53,6 @@ alike-most curve d (suc n) = go (eqb (curve n) d) (alike-most curve d n)
     go : {k : ℕ} (b : Bool) → k ≤ n → pick b (suc k) 0 ≤ suc n
     go true h = omega arith
     go false h = omega arith
-
--- ---- columns that agree up to n
-alike-ext : (f g : ℕ → ℕ) (d n : ℕ) → ((b : ℕ) → b < n → f b ≡ g b) → columnsAlike f d n ≡ columnsAlike g d n
-unfolding columnsAlike
-alike-ext f g d zero h = refl
-alike-ext f g d (suc n) h = rw (h n (omega arith), alike-ext f g d n (λ b l. h b (omega arith)))
-
-columns-ext : (d c e f : ℕ → ℕ) (k n : ℕ) → ((b : ℕ) → b < k + n → (d b ≡ e b) × (c b ≡ f b))
-    → columns d c (from k n) ≡ columns e f (from k n)
-unfolding columns from
-columns-ext d c e f k zero h = refl
-columns-ext d c e f k (suc n) h =
-    let same = h k (omega arith) in
-    rw (same .0, same .1, columns-ext d c e f (k + 1) n (λ b l. h b (omega arith)))
 
 -- ---- the set written over a buffer, counted
 taxa-over : (o s buffer : List ℕ) → IsSet o s → chosenTaxa o (over s buffer) ≡ chosenTaxa o s

@@ -37,7 +37,7 @@ SelectedOrRefused c r marks curve work =
 abbrev pub markedSet : Call → List ℕ → List ℕ
 markedSet c marks = take (size (c .outline)) marks
 
--- demand 2: what is told is the marked set's diversity, the sum of its prices, and the number marked
+-- demand 2: what is told is the marked set's diversity, its cost, which is the number of quarters, and the number marked
 pub record TrueOfMarks (c : Call) (r : Reply) (marks : List ℕ) : Type 0 where
   pub way-known : (c .way ≡ 0) ⊎ (c .way ≡ 1)
   pub diversity-true : r .diversity ≡ diversity (c .outline) (c .way) (markedSet c marks)

@@ -228,6 +228,31 @@ pub fn case(label: &[u8], buffer: &Buffer, n: usize, count: u32, way: u32)
     choose_bytes(label, buffer, 16 * n, count, way);
 }
 
+// The beginning of a label: what is special about the records, the way and the count.
+fn begin(label: &[u8], way: &[u8], count: u32) {
+    say(label);
+    say(way);
+    say(b", count ");
+    say_number(count as u64);
+    say(b": ");
+}
+
+// Choosing rooted from the first n records. The label ends with what is chosen.
+pub fn rooted(label: &[u8], buffer: &Buffer, n: usize, count: u32, chosen: &[u8])
+    requires { ⌜ n ≤ 129 ⌝ }
+{
+    begin(label, b", rooted", count);
+    case(chosen, buffer, n, count, 0);
+}
+
+// The same unrooted.
+pub fn unrooted(label: &[u8], buffer: &Buffer, n: usize, count: u32, chosen: &[u8])
+    requires { ⌜ n ≤ 129 ⌝ }
+{
+    begin(label, b", unrooted", count);
+    case(chosen, buffer, n, count, 1);
+}
+
 // Choosing from the first n records, with buffers of these sizes.
 pub fn case_with_buffers(
     label: &[u8],

@@ -5,12 +5,12 @@ use std::num::wrapping_add_usize;
 // What each byte or number of the buffers holds before the call.
 pub const UNTOUCHED: u32 = 9;
 
-// Each buffer has room beyond what 11 records and a count of 24 take.
+// Each buffer has room beyond what 11 records and a count of 44 take.
 pub type Marks = [u8; 12];
 
-pub type Curve = [u32; 52];
+pub type Curve = [u32; 92];
 
-pub type Work = [u64; 1310];
+pub type Work = [u64; 2350];
 
 pub fn mark_number(mark: u8) -> u32 {
     mark as u32
@@ -42,7 +42,7 @@ fn compare_curve_after(curve: &Curve, count: u32) -> Tally {
     let written = 2 * (count as usize + 1);
     let mut tally = Tally::none();
     let mut i = 0;
-    while i < 52 {
+    while i < 92 {
         if written <= i {
             tally = tally.with(b"number of the curve at", count, i, UNTOUCHED, curve[i]);
         }
@@ -63,7 +63,7 @@ fn wanted_work(i: usize, n: usize, count: u32) -> u32 {
 fn compare_work(work: &Work, n: usize, count: u32) -> Tally {
     let mut tally = Tally::none();
     let mut i = 0;
-    while i < 1310 {
+    while i < 2350 {
         let want = wanted_work(i, n, count);
         tally = tally.with(b"number of work at", count, i, want, work_number(work[i]));
         i += 1;

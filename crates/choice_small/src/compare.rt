@@ -10,6 +10,7 @@ use super::exhaustive::incumbents;
 use super::exhaustive::weigh;
 use super::exhaustive::worth_at;
 use super::fields::first;
+use super::fields::has_heading;
 use super::fields::length;
 use super::fields::next;
 use super::fields::plate;
@@ -35,11 +36,11 @@ fn compare_curve(
     count: u32,
     diversities: &Worth,
     costs: &Worth,
-    incumbents: &[u32; 25],
+    incumbents: &[u32; 45],
 ) -> Tally {
     let mut tally = Tally::none();
     let mut b = 0;
-    while b < 25 {
+    while b < 45 {
         if b <= count as usize {
             let incumbent = incumbents[b];
             tally = tally.with(
@@ -101,7 +102,7 @@ fn compare_answer(answer: Answer, count: u32, diversity: u32, cost: u32, taxa: u
     }
 }
 
-// One call, at a count up to 24.
+// One call, at a count up to 44.
 fn compare_call(
     o: &Buffer,
     n: usize,
@@ -109,13 +110,13 @@ fn compare_call(
     way: u32,
     diversities: &Worth,
     costs: &Worth,
-    incumbents: &[u32; 25],
+    incumbents: &[u32; 45],
 ) -> Tally
-    requires { ⌜ (n ≤ 11) × (count < 25) ⌝ }
+    requires { ⌜ (n ≤ 11) × (count < 45) ⌝ }
 {
     let mut marks = [UNTOUCHED as u8; 12];
-    let mut curve = [UNTOUCHED; 52];
-    let mut work = [UNTOUCHED as u64; 1310];
+    let mut curve = [UNTOUCHED; 92];
+    let mut work = [UNTOUCHED as u64; 2350];
     let answer = choose(
         first_bytes(o, 16 * n),
         count,
@@ -139,7 +140,7 @@ fn compare_call(
         .plus(compare_rest(n, count, &marks, &curve, &work))
 }
 
-// Every count up to the sum of prices, and up to 24.
+// Every count up to the sum of prices, and up to 44.
 fn compare_counts(o: &Buffer, n: usize, way: u32) -> Tally
     requires { ⌜ n ≤ 11 ⌝ }
 {
@@ -151,7 +152,7 @@ fn compare_counts(o: &Buffer, n: usize, way: u32) -> Tally
     let most = cost(o, &set_of(o, 63));
     let mut tally = Tally::none();
     let mut count = 0;
-    while count < 25 {
+    while count < 45 {
         if count <= most {
             tally = tally.plus(compare_call(o, n, count, way, &diversities, &costs, &incumbents));
         }
@@ -179,9 +180,13 @@ fn say_records(o: &Buffer, n: usize) {
 }
 
 // Compares one way, and ends the line that the outline's name began. There are at most 6 taxa.
-fn compare_way(o: &Buffer, n: usize, way: u32) -> Tally
+fn compare_way(o: &Buffer, n: usize, way: u32, word: &[u8]) -> Tally
     requires { ⌜ n ≤ 11 ⌝ }
 {
+    if has_heading(o) {
+        say(b" with headings");
+    }
+    say(word);
     let tally = compare_counts(o, n, way);
     if tally.wrong == 0 {
         say(b" ok\n");
@@ -195,13 +200,11 @@ fn compare_way(o: &Buffer, n: usize, way: u32) -> Tally
 pub fn rooted(o: &Buffer, n: usize) -> Tally
     requires { ⌜ n ≤ 11 ⌝ }
 {
-    say(b" rooted");
-    compare_way(o, n, 0)
+    compare_way(o, n, 0, b" rooted")
 }
 
 pub fn unrooted(o: &Buffer, n: usize) -> Tally
     requires { ⌜ n ≤ 11 ⌝ }
 {
-    say(b" unrooted");
-    compare_way(o, n, 1)
+    compare_way(o, n, 1, b" unrooted")
 }

@@ -71,11 +71,11 @@ fn best(diversities: &Worth, costs: &Worth, sets: u32, count: u32) -> u32 {
     incumbent
 }
 
-// For each count from 0 to 24 the incumbent at the end.
-pub fn incumbents(diversities: &Worth, costs: &Worth, sets: u32) -> [u32; 25] {
-    let mut incumbents = [0u32; 25];
+// For each count from 0 to 44 the incumbent at the end.
+pub fn incumbents(diversities: &Worth, costs: &Worth, sets: u32) -> [u32; 45] {
+    let mut incumbents = [0u32; 45];
     let mut b: u32 = 0;
-    while b < 25 {
+    while b < 45 {
         incumbents[b as usize] = best(diversities, costs, sets, b);
         b += 1;
     }

@@ -50,3 +50,15 @@ pub fn plate(o: &Buffer, r: usize) -> u32 {
     }
     0
 }
+
+// Whether a group has a price above 0.
+pub fn has_heading(o: &Buffer) -> bool {
+    let mut r = 1;
+    while r < 12 {
+        if (first(o, r) != 0) & (price(o, r) != 0) {
+            return true;
+        }
+        r += 1;
+    }
+    false
+}

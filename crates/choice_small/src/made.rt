@@ -2,7 +2,12 @@
 ghost use Prim.Native.Nat.{_≤_};
 use super::compare::rooted;
 use super::compare::unrooted;
+use super::fields::has_heading;
 use super::tally::Tally;
+use samples::headings::deep_pair;
+use samples::headings::free_pair;
+use samples::headings::headed;
+use samples::headings::two_families;
 use samples::outlines::Buffer;
 use samples::outlines::comb;
 use samples::outlines::one_record;
@@ -10,15 +15,24 @@ use samples::outlines::put;
 use samples::outlines::star;
 use samples::outlines::tree_a;
 use samples::outlines::tree_a_with;
+use samples::outlines::tree_a_with_headings;
 use samples::words::say;
 
+// Both ways.
 fn both(label: &[u8], o: &Buffer, n: usize) -> Tally
     requires { ⌜ n ≤ 11 ⌝ }
 {
     say(label);
     let tally = rooted(o, n);
     say(label);
-    tally.plus(unrooted(o, n))
+    tally.plus(unrooted(o, n)).with_outline(has_heading(o))
+}
+
+// An outline without headings as it is, and with a heading of 1 on each group.
+fn twice(label: &[u8], o: &Buffer, n: usize) -> Tally
+    requires { ⌜ n ≤ 11 ⌝ }
+{
+    both(label, o, n).plus(both(label, &headed(o, n, 1), n))
 }
 
 // Three taxa under a root of length 0, by length and price.
@@ -45,30 +59,30 @@ fn two_groups(length: u32) -> Buffer {
 
 // Sets of equal diversity, and of equal cost.
 pub fn tied() -> Tally {
-    let alike = both(b"two alike", &star(3, 4, 1), 3).plus(both(b"six alike", &star(7, 2, 1), 7));
-    let free = both(b"six free", &star(7, 2, 0), 7).plus(both(
+    let alike = twice(b"two alike", &star(3, 4, 1), 3).plus(twice(b"six alike", &star(7, 2, 1), 7));
+    let free = twice(b"six free", &star(7, 2, 0), 7).plus(twice(
         b"six free of no length",
         &star(7, 0, 0),
         7,
     ));
-    let dear = both(b"six of no length", &star(7, 0, 1), 7).plus(both(
+    let dear = twice(b"six of no length", &star(7, 0, 1), 7).plus(twice(
         b"six at 4",
         &star(7, 1, 4),
         7,
     ));
-    let one = both(b"one or two others", &three([4, 2], [2, 1], [2, 1]), 4);
-    let two = both(b"two or one other", &three([2, 1], [2, 1], [4, 2]), 4);
-    let behind = both(
+    let one = twice(b"one or two others", &three([4, 2], [2, 1], [2, 1]), 4);
+    let two = twice(b"two or one other", &three([2, 1], [2, 1], [4, 2]), 4);
+    let behind = twice(
         b"alike behind a free one",
         &three([3, 0], [3, 2], [3, 2]),
         4,
     );
-    let before = both(
+    let before = twice(
         b"alike before a free one",
         &three([3, 2], [3, 2], [3, 0]),
         4,
     );
-    let groups = both(b"two groups", &two_groups(2), 8).plus(both(
+    let groups = twice(b"two groups", &two_groups(2), 8).plus(twice(
         b"two groups of no length",
         &two_groups(0),
         8,
@@ -94,38 +108,29 @@ fn single_members() -> Buffer {
     o
 }
 
-// Two taxa deep below the only member of the root.
-fn deep_pair() -> Buffer {
-    let mut o = one_record([0, 2, 9, 0, 0]);
-    put(&mut o, 2, [0, 3, 8, 0, 0]);
-    put(&mut o, 3, [4, 0, 2, 1, 1]);
-    put(&mut o, 4, [0, 0, 3, 2, 2]);
-    o
-}
-
 pub fn shaped() -> Tally {
     let one = both(b"one taxon", &one_record([0, 0, 5, 1, 7]), 1).plus(both(
         b"one free taxon",
         &one_record([0, 0, 5, 0, 7]),
         1,
     ));
-    let a = both(b"tree A", &tree_a(), 5).plus(both(
+    let a = twice(b"tree A", &tree_a(), 5).plus(twice(
         b"tree A with a free taxon",
         &tree_a_with(4, [0, 0, 2, 0, 12]),
         5,
     ));
-    let dear = both(
+    let dear = twice(
         b"tree A with price 65,535",
         &tree_a_with(4, [0, 0, 2, 65535, 12]),
         5,
     );
-    let d = both(b"longest first stops", &three([6, 3], [5, 2], [5, 2]), 4);
-    let single = both(b"single members", &single_members(), 6).plus(both(
+    let d = twice(b"longest first stops", &three([6, 3], [5, 2], [5, 2]), 4);
+    let single = twice(b"single members", &single_members(), 6).plus(twice(
         b"a deep pair",
-        &deep_pair(),
+        &deep_pair(0, 0),
         4,
     ));
-    let combs = both(b"comb", &comb(11, 1, 1), 11).plus(both(
+    let combs = twice(b"comb", &comb(11, 1, 1), 11).plus(twice(
         b"comb of no length",
         &comb(11, 0, 2),
         11,
@@ -187,16 +192,42 @@ fn levels() -> Buffer {
 }
 
 pub fn interleaved() -> Tally {
-    let two = both(b"two take turns", &two_interleaved(), 7).plus(both(
+    let two = twice(b"two take turns", &two_interleaved(), 7).plus(twice(
         b"the lower record is later by links",
         &lower_is_later(),
         6,
     ));
-    let three = both(b"three take turns", &three_interleaved(2), 10).plus(both(
+    let three = twice(b"three take turns", &three_interleaved(2), 10).plus(twice(
         b"three of no length",
         &three_interleaved(0),
         10,
     ));
     two.plus(three)
-        .plus(both(b"levels take turns", &levels(), 10))
+        .plus(twice(b"levels take turns", &levels(), 10))
+}
+
+// Headings that differ, and headings above any count.
+pub fn headings() -> Tally {
+    let a = both(b"tree A at 0 and 2", &tree_a_with_headings(0, 2), 5).plus(both(
+        b"tree A at 1 and 2",
+        &tree_a_with_headings(1, 2),
+        5,
+    ));
+    let dear = both(
+        b"tree A at 0 and 65,535",
+        &tree_a_with_headings(0, 65535),
+        5,
+    ).plus(both(
+        b"tree A at 65,535 and 0",
+        &tree_a_with_headings(65535, 0),
+        5,
+    ));
+    let deep = both(b"a deep pair at 1 and 2", &deep_pair(1, 2), 4);
+    let families = both(b"two families", &two_families(3), 8);
+    let free = both(b"a free pair of no length", &free_pair(0, 0, 1), 6).plus(both(
+        b"a free pair",
+        &free_pair(3, 1, 1),
+        6,
+    ));
+    a.plus(dear).plus(deep).plus(families).plus(free)
 }

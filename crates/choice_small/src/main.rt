@@ -1,7 +1,7 @@
 // Choosing, compared with a trial of every set of taxa, as the patient editor of document 01 would make it: on small outlines,
-// both ways, at every count up to the sum of prices. A line is printed for each outline and way, `ok` if all is alike, and each
-// difference if not; the last line has the number of values compared: columns, marks, the answers' four numbers, and each cell
-// of the buffers that should be 0 or as it was.
+// with and without headings, both ways, at every count up to the sum of prices. A line is printed for each outline and way, `ok`
+// if all is alike, and each difference if not. The last two lines have the number of outlines, and that of values compared:
+// columns, marks, the answers' four numbers, and each cell of the buffers that should be 0 or as it was.
 mod buffers;
 mod compare;
 mod exhaustive;
@@ -18,7 +18,12 @@ fn main() {
     let tally = made::tied()
         .plus(made::shaped())
         .plus(made::interleaved())
+        .plus(made::headings())
         .plus(random::outlines());
+    say_number(tally.outlines as u64);
+    say(b" outlines, ");
+    say_number(tally.headed as u64);
+    say(b" with headings\n");
     say_number(tally.compared as u64);
     say(b" values compared, ");
     say_number(tally.wrong as u64);

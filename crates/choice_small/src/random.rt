@@ -2,6 +2,7 @@
 ghost use Prim.Native.Nat.{_≤_, _<_};
 use super::compare::rooted;
 use super::compare::unrooted;
+use super::fields::has_heading;
 use super::tally::Tally;
 use samples::outlines::Buffer;
 use samples::outlines::blank;
@@ -61,22 +62,27 @@ fn link(seed: &mut u64, n: usize, next: &mut [u32; 12], first: &mut [u32; 12]) {
     }
 }
 
-// Writes record r, of a length below `lengths`, and a taxon of a price below 5.
-fn put_drawn(o: &mut Buffer, r: usize, next: u32, first: u32, seed: &mut u64, lengths: usize)
-    requires { ⌜ (1 ≤ r) × (r < 12) × (1 ≤ lengths) × (lengths ≤ 1000) ⌝ }
+// The highest length and the highest heading that are drawn for an outline.
+struct Highest {
+    length: u16,
+    heading: u16,
+}
+
+// Writes record r. The price of a taxon is below 5.
+fn put_drawn(o: &mut Buffer, r: usize, next: u32, first: u32, seed: &mut u64, highest: Highest)
+    requires { ⌜ (1 ≤ r) × (r < 12) ⌝ }
 {
-    let length = draw(seed, lengths) as u32;
+    let length = draw(seed, highest.length as usize + 1) as u32;
     if first != 0 {
-        put(o, r, [next, first, length, 0, 0]);
+        let heading = draw(seed, highest.heading as usize + 1) as u32;
+        put(o, r, [next, first, length, heading, 0]);
         return;
     }
     let price = draw(seed, 5) as u32;
     put(o, r, [next, 0, length, price, r as u32]);
 }
 
-fn outline(seed: &mut u64, n: usize, lengths: usize) -> Buffer
-    requires { ⌜ (1 ≤ lengths) × (lengths ≤ 1000) ⌝ }
-{
+fn outline(seed: &mut u64, n: usize, highest: Highest) -> Buffer {
     let mut next = [0u32; 12];
     let mut first = [0u32; 12];
     link(seed, n, &mut next, &mut first);
@@ -84,7 +90,7 @@ fn outline(seed: &mut u64, n: usize, lengths: usize) -> Buffer
     let mut r = 1;
     while r < 12 {
         if r <= n {
-            put_drawn(&mut o, r, next[r], first[r], seed, lengths);
+            put_drawn(&mut o, r, next[r], first[r], seed, highest);
         }
         r += 1;
     }
@@ -92,13 +98,20 @@ fn outline(seed: &mut u64, n: usize, lengths: usize) -> Buffer
 }
 
 // Few lengths have many ties, many have few.
-fn lengths(k: u64) -> usize
-    ensures { λ v. ⌜ (1 ≤ v) × (v ≤ 1000) ⌝ }
-{
+fn highest_length(k: u64) -> u16 {
     match k % 3 {
+        0 => 1,
+        1 => 3,
+        _ => 999,
+    }
+}
+
+// Every other outline has headings of 0.
+fn highest_heading(k: u64) -> u16 {
+    match k % 4 {
         0 => 2,
-        1 => 4,
-        _ => 1000,
+        2 => 4,
+        _ => 0,
     }
 }
 
@@ -110,16 +123,20 @@ fn both(k: u64, o: &Buffer, n: usize) -> Tally
     let tally = rooted(o, n);
     say(b"random ");
     say_number(k);
-    tally.plus(unrooted(o, n))
+    tally.plus(unrooted(o, n)).with_outline(has_heading(o))
 }
 
 pub fn outlines() -> Tally {
     let mut seed = 1;
     let mut tally = Tally::none();
     let mut k = 1;
-    while k <= 40 {
+    while k <= 80 {
         let n = 4 + draw(&mut seed, 8);
-        let o = outline(&mut seed, n, lengths(k));
+        let highest = Highest {
+            length: highest_length(k),
+            heading: highest_heading(k),
+        };
+        let o = outline(&mut seed, n, highest);
         tally = tally.plus(both(k, &o, n));
         k += 1;
     }

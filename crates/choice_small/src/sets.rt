@@ -1,4 +1,4 @@
-// Sets of taxa of a small outline, and what they are worth by the definitions of document 01.
+// Sets of taxa of a small outline, and what they are worth by the definitions of documents 01 and 02.
 use super::fields::first;
 use super::fields::length;
 use super::fields::next;
@@ -78,11 +78,13 @@ pub fn diversity(o: &Buffer, set: &Row, way: u32) -> u32 {
     sum
 }
 
+// The prices of the set's taxa, and of each group that has one of them below it.
 pub fn cost(o: &Buffer, set: &Row) -> u32 {
+    let below = below(o, set);
     let mut sum = 0;
     let mut r = 1;
     while r < 12 {
-        if set[r] == 1 {
+        if 0 < below[r] {
             sum = wrapping_add_u32(sum, price(o, r));
         }
         r += 1;

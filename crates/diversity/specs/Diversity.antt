@@ -42,9 +42,9 @@ unrooted o s = total (λ r. pick (within o s r && elsewhere o s r) (branch o r) 
 unfoldable pub diversity : List ℕ → ℕ → List ℕ → ℕ
 diversity o way s = pick (eqb way 0) (rooted o s) (unrooted o s)
 
--- the cost of a set is the sum of its prices
+-- the cost of a set: the sum of prices of records that are, or have below them, a chosen taxon
 unfoldable pub cost : List ℕ → List ℕ → ℕ
-cost o s = total (λ r. pick (chosen s r) (price o r) 0) (records o)
+cost o s = total (λ r. pick (within o s r) (price o r) 0) (records o)
 
 -- the number of taxa is the number marked
 unfoldable pub chosenTaxa : List ℕ → List ℕ → ℕ

@@ -3,56 +3,13 @@ use Prim.Native.Nat.{ℕ}
 use mathlib.Core.Path.{_≡_, refl}
 use mathlib.Core.List.{List, [], _∷_, _++_, map}
 use Rattle.lists.specs.Lists.{from, anywhere, total, lowest}
-use Rattle.refusals.specs.Refusals.{Told, passed}
 use Rattle.outline.specs.Outline.{short, long, records, bytes, recordBytes}
 use Rattle.outline.specs.Refusals.{badField, naming, named, badLink, taxaIn, taxa, hasPlate, isDuplicate, sizeRows, recordRows, checked}
 use Rattle.diversity.specs.Diversity.{chain, clade, chosen, within, elsewhere, rooted, unrooted, diversity, cost, chosenTaxa}
 use Rattle.diversity.specs.Search.{subsets, leads, better, turn, exhaustiveSearch, setOf, optimum, bestDiversity, leastCost}
 use Rattle.diversity.specs.Search.{columnsAlike, spare}
+use Rattle.diversity.specs.Cases.{Case, computed, selects, rival, given}
 
--- what choosing gives: what the check tells of the outline, the marks, and the four numbers
-pub record Choice : Type 0 where
-  pub check : Told
-  pub marks : List ℕ
-  pub diversity : ℕ
-  pub cost : ℕ
-  pub taxa : ℕ
-  pub spare : ℕ
-
--- another set that a case speaks of, and what it is worth
-pub record Rival : Type 0 where
-  pub marks : List ℕ
-  pub diversity : ℕ
-  pub cost : ℕ
-
-pub record Case : Type 0 where
-  pub outline : List ℕ
-  pub way : ℕ
-  pub count : ℕ
-  pub gives : Choice
-  pub rivals : List Rival
-
--- a case with what the definitions give in place of what it says
-abbrev pub computed : Case → Case
-computed c =
-    let o = c .outline in
-    let best = optimum o (c .way) (c .count) in
-    record {
-      outline = o;
-      way = c .way;
-      count = c .count;
-      gives = record {
-        check = checked o;
-        marks = best;
-        diversity = bestDiversity o (c .way) (c .count);
-        cost = leastCost o (c .way) (c .count);
-        taxa = chosenTaxa o best;
-        spare = spare o (c .way) (c .count);
-      };
-      rivals = map (λ (v : Rival). record { marks = v .marks; diversity = diversity o (c .way) (v .marks); cost = cost o (v .marks) }) (c .rivals);
-    }
-
--- ---- the outlines
 treeA : List ℕ
 treeA = recordBytes 0 2 0 0 0 ++ recordBytes 5 3 3 0 0 ++ recordBytes 4 0 4 3 11 ++ recordBytes 0 0 2 1 12 ++ recordBytes 0 0 5 2 13
 
@@ -71,18 +28,6 @@ treeD = recordBytes 0 2 0 0 0 ++ recordBytes 3 0 6 3 1 ++ recordBytes 4 0 5 2 2 
 -- E: one taxon, length 5, price 1
 treeE : List ℕ
 treeE = recordBytes 0 0 5 1 1
-
--- ---- the cases
--- a selection of an accepted outline: marks, diversity, cost, number of taxa, spare
-abbrev selects : List ℕ → ℕ → ℕ → ℕ → ℕ → Choice
-selects marks diversity cost taxa spare = record { check = passed; marks = marks; diversity = diversity; cost = cost; taxa = taxa; spare = spare }
-
-abbrev rival : List ℕ → ℕ → ℕ → Rival
-rival marks diversity cost = record { marks = marks; diversity = diversity; cost = cost }
-
--- an outline, a way and a page count; the selection; other sets
-abbrev given : List ℕ → ℕ → ℕ → Choice → List Rival → Case
-given outline way count gives rivals = record { outline = outline; way = way; count = count; gives = gives; rivals = rivals }
 
 pub starred : List Case
 starred =

@@ -17,7 +17,7 @@ use Rattle.laws.specs.Forest.{Forest, empty, node, sumIn, countIn, tree,
 use Rattle.laws.proofs.Sums.{positive, anywhere-count, occurs, occurs-most, total-add, total-zero, total-ext, total-at}
 use Rattle.laws.proofs.Forest.{total-listed, chain-listed, tree-step, members-cases, sum-all, inside, distinct}
 use Rattle.laws.proofs.Marks.{group-unchosen}
-use Rattle.laws.proofs.Measures.{chosenIn, groupsIn, costIn, rootedIn, unrootedIn, crossing, crossing-unrooted}
+use Rattle.laws.proofs.Measures.{chosenIn, groupsIn, withinIn, costIn, rootedIn, unrootedIn, crossing, crossing-unrooted}
 
 total-clade : (w : ℕ → ℕ) (o : List ℕ) (r : ℕ) → total w (clade o r) ≡ w r + sumIn (λ q f. w q) (tree o (first o r))
 unfolding clade total tree
@@ -66,13 +66,16 @@ apart true (suc (suc k)) h = absurd (omega arith)
 apart false k h = omega arith
 
 module _ (o : List ℕ) (linked : Linked o) (s : List ℕ) where
+  within-tree : (w : ℕ → ℕ) → total (λ r. pick (within o s r) (w r) 0) (records o) ≡ withinIn w (chosen s) (tree o 1)
+  within-tree w = simp within-count (sum-all o linked (λ r f. pick (positive (one (chosen s r) + chosenIn (chosen s) f)) (w r) 0))
+
   pub rooted-tree : rooted o s ≡ rootedIn o (chosen s) (tree o 1)
   unfolding rooted
-  rooted-tree = simp within-count (sum-all o linked (λ r f. pick (positive (one (chosen s r) + chosenIn (chosen s) f)) (branch o r) 0))
+  rooted-tree = within-tree (branch o)
 
   pub cost-tree : cost o s ≡ costIn o (chosen s) (tree o 1)
   unfolding cost
-  cost-tree = sum-all o linked (λ r f. pick (chosen s r) (price o r) 0)
+  cost-tree = within-tree (price o)
 
   pub elsewhere-count : (r : ℕ) → 1 ≤ r → r ≤ size o → elsewhere o s r ≡ positive (chosenIn (chosen s) (tree o 1) - chosenBelow o s r)
   unfolding elsewhere

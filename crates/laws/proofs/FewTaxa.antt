@@ -1,4 +1,4 @@
--- Diversity of few taxa: both ways give 0 for the empty set, and the unrooted way gives 0 for one taxon.
+-- Few taxa: the empty set costs nothing and both ways give 0 for it, and the unrooted way gives 0 for one taxon.
 use Prim.Native.Nat.{ℕ, zero, suc, _-_}
 use mathlib.Core.Path.{_≡_, refl, ap, ap₂, _∙_}
 use mathlib.Core.Bool.{Bool, true, false, _&&_}
@@ -6,9 +6,9 @@ use mathlib.Core.List.{List, [], _∷_}
 use native.Mathlib.Omega.{arith}
 use lib.Dec.{eqb}
 use Rattle.lists.specs.Lists.{pick, one, anywhere}
-use Rattle.outline.specs.Outline.{size, records, branch}
+use Rattle.outline.specs.Outline.{size, records, branch, price}
 use Rattle.outline.proofs.Kept.{Linked}
-use Rattle.diversity.specs.Diversity.{clade, chosen, within, elsewhere, rooted, unrooted, diversity, chosenTaxa}
+use Rattle.diversity.specs.Diversity.{clade, chosen, within, elsewhere, rooted, unrooted, diversity, cost, chosenTaxa}
 use Rattle.laws.specs.Forest.{tree}
 use Rattle.laws.proofs.Sums.{positive, total-zero, total-ext, total-uncounted}
 use Rattle.laws.proofs.Forest.{sum-all}
@@ -33,6 +33,10 @@ module _ (o s : List ℕ) (none : (r : ℕ) → chosen s r ≡ false) where
       go : (b : Bool) → pick b (rooted o s) (unrooted o s) ≡ 0
       go true = total-uncounted (within o s) (branch o) (records o) nothing-within
       go false = total-uncounted (λ r. within o s r && elsewhere o s r) (branch o) (records o) (λ r. ap (λ b. b && elsewhere o s r) (nothing-within r))
+
+  pub cost-empty : cost o s ≡ 0
+  unfolding cost
+  cost-empty = total-uncounted (within o s) (price o) (records o) nothing-within
 
 -- one taxon chosen: no record has it below and another one elsewhere
 pub unrooted-one : (o : List ℕ) → Linked o → (s : List ℕ) → chosenTaxa o s ≡ 1 → unrooted o s ≡ 0

@@ -1,64 +1,40 @@
--- A taxon of price 0 is always chosen: a set that lacks it is behind the same set with it.
-use Prim.Native.Nat.{ℕ, _-_, _≤_}
-use mathlib.Core.Path.{_≡_, refl, sym, ap, _∙_}
+-- A taxon that is free, with every group above it, is always chosen: a set that lacks it is behind the same set with it.
+use Prim.Native.Nat.{ℕ, zero, suc, _+_, _-_, _≤_}
+use mathlib.Core.Path.{_≡_, refl, sym, ap, ap₂, _∙_}
 use mathlib.Core.Logic.{inr}
-use mathlib.Core.Bool.{Bool, true, false, _||_, _&&_, false≢true}
+use mathlib.Core.Bool.{Bool, true, false, _||_, false≢true}
 use mathlib.Core.List.{List, [], _∷_}
 use native.Mathlib.Omega.{arith}
 use lib.Dec.{eqb}
 use lib.ListN.{getD, set, length-set}
 use lib.Seq.{getD-set-same, getD-set-other}
-use borrow.Author.Tests.{eqb-true, eqb-false, eq-eqb}
-use Rattle.lists.specs.Lists.{pick, anywhere}
-use Rattle.outline.specs.Outline.{size, records, branch, price, isTaxon}
-use Rattle.diversity.specs.Diversity.{clade, chosen, within, elsewhere, rooted, unrooted, diversity, cost}
+use borrow.Author.Tests.{eqb-true, eqb-false, eq-eqb, ne-eqb}
+use Rattle.lists.specs.Lists.{pick, one, anywhere, total}
+use Rattle.outline.specs.Outline.{size, records, next, first, price, isTaxon}
+use Rattle.diversity.specs.Diversity.{chain, clade, chosen, within, cost}
 use Rattle.diversity.specs.Behind.{MarkAt, IsSet, Behind, less-diversity, more-cost, lacks-first}
+use Rattle.diversity.specs.Headings.{Free}
 use Rattle.diversity.specs.Search.{optimum}
-use Rattle.laws.proofs.Sums.{total-ext, total-below}
+use Rattle.lists.proofs.Bools.{both-false}
+use Rattle.laws.proofs.Sums.{pick-zero, occurs, total-append, total-ext}
+use Rattle.laws.proofs.More.{Implies, diversity-more}
 use Rattle.laws.proofs.Optimum.{optimum-set, optimum-fits, others-behind}
 
--- a test that holds wherever another does
-abbrev Implies : Bool → Bool → Type 0
-Implies a b = a ≡ true → b ≡ true
-
-implies-or : (a b c d : Bool) → Implies a c → Implies b d → Implies (a || b) (c || d)
-implies-or true b c d p q e = rw (p refl)
-implies-or false b true d p q e = refl
-implies-or false b false d p q e = q e
-
-implies-and : (a b c d : Bool) → Implies a c → Implies b d → Implies (a && b) (c && d)
-implies-and true b c d p q e = rw (p refl) (q e)
-implies-and false b c d p q e = absurd (false≢true e)
-
-implies-anywhere : (p q : ℕ → Bool) → ((x : ℕ) → Implies (p x) (q x)) → (xs : List ℕ) → Implies (anywhere p xs) (anywhere q xs)
-unfolding anywhere
-implies-anywhere p q h [] e = e
-implies-anywhere p q h (x ∷ xs) e = implies-or (p x) (anywhere p xs) (q x) (anywhere q xs) (h x) (implies-anywhere p q h xs) e
-
-implies-pick : (a b : Bool) (n : ℕ) → Implies a b → pick a n 0 ≤ pick b n 0
-implies-pick true b n h = rw (h refl) (omega arith)
-implies-pick false b n h = omega arith
-
--- ---- more taxa, no less diversity
-module _ (o s t : List ℕ) (more : (r : ℕ) → Implies (chosen s r) (chosen t r)) where
-  within-more : (r : ℕ) → Implies (within o s r) (within o t r)
-  unfolding within
-  within-more r = implies-anywhere (chosen s) (chosen t) more (clade o r)
-
-  elsewhere-more : (r : ℕ) → Implies (elsewhere o s r) (elsewhere o t r)
-  unfolding elsewhere
-  elsewhere-more r = implies-anywhere _ _ (λ x. implies-and (chosen s x) _ (chosen t x) _ (more x) (λ e. e)) (records o)
-
-  pub diversity-more : (way : ℕ) → diversity o way s ≤ diversity o way t
-  unfolding diversity rooted unrooted
-  diversity-more way = go (eqb way 0)
-    where
-      go : (b : Bool) → pick b (rooted o s) (unrooted o s) ≤ pick b (rooted o t) (unrooted o t)
-      go true = total-below _ _ (records o) (λ r. implies-pick (within o s r) (within o t r) (branch o r) (within-more r))
-      go false =
-          total-below _ _ (records o)
-          (λ r. implies-pick (within o s r && elsewhere o s r) (within o t r && elsewhere o t r) (branch o r)
-          (implies-and (within o s r) (elsewhere o s r) (within o t r) (elsewhere o t r) (within-more r) (elsewhere-more r)))
+-- 0 is no record's number
+no-zero : (k : ℕ) (o : List ℕ) (r : ℕ) → occurs 0 (chain k o r) ≡ 0
+unfolding chain total
+no-zero zero o r = refl
+no-zero (suc k) o zero = refl
+no-zero (suc k) o (suc r) =
+    let f = chain k o (first o (suc r)) in
+    let n = chain k o (next o (suc r)) in
+    omega (
+      arith,
+      ap one (ne-eqb 0 (suc r) (λ e. omega arith)),
+      total-append (λ q. one (eqb 0 q)) f n,
+      no-zero k o (first o (suc r)),
+      no-zero k o (next o (suc r)),
+    )
 
 -- ---- a set with one taxon more
 module _ (o s : List ℕ) (x : IsSet o s) (r : ℕ) (l : 1 ≤ r) (u : r ≤ size o) where
@@ -95,25 +71,35 @@ module _ (o s : List ℕ) (x : IsSet o s) (r : ℕ) (l : 1 ≤ r) (u : r ≤ siz
           inr (joined-here q e, ap (isTaxon o) same ∙ taxon)
       go q m v false e = rw (joined-else q e) (x .marks q m v)
 
-  -- a free one costs nothing
-  joined-cost : price o r ≡ 0 → cost o joined ≡ cost o s
-  unfolding cost chosen records
-  joined-cost free = total-ext _ _ 1 (size o) (λ q m v. go q m (eqb (q - 1) (r - 1)) refl)
+  -- among records without r, the same are chosen
+  joined-apart : (xs : List ℕ) → anywhere (eqb r) xs ≡ false → occurs 0 xs ≡ 0 → anywhere (chosen joined) xs ≡ anywhere (chosen s) xs
+  unfolding anywhere total chosen
+  joined-apart [] e z = refl
+  joined-apart (q ∷ qs) e z =
+      let (here, later) = both-false (eqb r q) (anywhere (eqb r) qs) e in
+      let apart = eqb-false r q here in
+      ap₂ _||_ (ap (λ k. eqb k 1) (joined-else q (ne-eqb (q - 1) (r - 1) (λ d. apart (omega (arith, positive q z)))))) (joined-apart qs later (omega arith))
     where
-      none : (b : Bool) → pick {A = ℕ} b 0 0 ≡ 0
-      none true = refl
-      none false = refl
+      positive : (q : ℕ) → one (eqb 0 q) + occurs 0 qs ≡ 0 → 1 ≤ q
+      positive zero z = absurd (omega arith)
+      positive (suc q) z = omega arith
 
-      go : (q : ℕ) → 1 ≤ q → (b : Bool) → eqb (q - 1) (r - 1) ≡ b
-          → pick (eqb (getD joined (q - 1) 0) 1) (price o q) 0 ≡ pick (eqb (getD s (q - 1) 0) 1) (price o q) 0
-      go q m true e =
-          let same : q ≡ r = omega (arith, eqb-true (q - 1) (r - 1) e) in
-          let costless : price o q ≡ 0 = ap (price o) same ∙ free in
-          rw costless (none (eqb (getD joined (q - 1) 0) 1) ∙ sym (none (eqb (getD s (q - 1) 0) 1)))
-      go q m false e = rw (joined-else q e)
+  -- a free one costs nothing
+  joined-cost : Free o r → cost o joined ≡ cost o s
+  unfolding cost within records clade total
+  joined-cost free = total-ext _ _ 1 (size o) (λ q m v. go q m (omega arith) (anywhere (eqb r) (clade o q)) refl)
+    where
+      go : (q : ℕ) → 1 ≤ q → q ≤ size o → (b : Bool) → anywhere (eqb r) (clade o q) ≡ b
+          → pick (anywhere (chosen joined) (clade o q)) (price o q) 0 ≡ pick (anywhere (chosen s) (clade o q)) (price o q) 0
+      go q m v true e =
+          rw (free q (record { low = m; high = v }) e)
+          (pick-zero (anywhere (chosen joined) (clade o q)) ∙ sym (pick-zero (anywhere (chosen s) (clade o q))))
+      go q m v false e =
+          ap (λ b. pick b (price o q) 0)
+          (joined-apart (clade o q) e (omega (arith, ap one (ne-eqb 0 q (λ z. omega arith)), no-zero (size o) o (first o q))))
 
--- a taxon of price 0 is always chosen
-pub free-chosen : (o : List ℕ) (way b r : ℕ) → 1 ≤ r → r ≤ size o → isTaxon o r ≡ true → price o r ≡ 0 → chosen (optimum o way b) r ≡ true
+-- a free taxon is always chosen where the groups above it are free too
+pub free-chosen : (o : List ℕ) (way b r : ℕ) → 1 ≤ r → r ≤ size o → isTaxon o r ≡ true → Free o r → chosen (optimum o way b) r ≡ true
 free-chosen o way b r l u taxon free = go (chosen s r) refl
   where
     s : List ℕ

@@ -4,9 +4,11 @@ pub mod ByTree
 pub mod FewTaxa
 pub mod Forest
 pub mod Free
+pub mod Headings
 pub mod Links
 pub mod Marks
 pub mod Measures
+pub mod More
 pub mod Numbers
 pub mod Optimum
 pub mod Order

@@ -21,12 +21,16 @@ groupsIn p F = sumIn (λ r f. one (p r && isGroup f)) F
 abbrev pub weightIn : (ℕ → ℕ) → (ℕ → Bool) → Forest → ℕ
 weightIn w p F = sumIn (λ r f. pick (p r) (w r) 0) F
 
-abbrev pub costIn : List ℕ → (ℕ → Bool) → Forest → ℕ
-costIn o p F = weightIn (price o) p F
+-- what the records weigh that are, or have below them, a chosen one
+abbrev pub withinIn : (ℕ → ℕ) → (ℕ → Bool) → Forest → ℕ
+withinIn w p F = sumIn (λ r f. pick (positive (one (p r) + chosenIn p f)) (w r) 0) F
 
--- a record's branch counts where it or a record below it is chosen
+-- so count prices, and branches if rooted
+abbrev pub costIn : List ℕ → (ℕ → Bool) → Forest → ℕ
+costIn o p F = withinIn (price o) p F
+
 abbrev pub rootedIn : List ℕ → (ℕ → Bool) → Forest → ℕ
-rootedIn o p F = sumIn (λ r f. pick (positive (one (p r) + chosenIn p f)) (branch o r) 0) F
+rootedIn o p F = withinIn (branch o) p F
 
 -- by how many are chosen in the first clade and in the rest of its chain
 abbrev pub across : ℕ → ℕ → ℕ → ℕ → ℕ → ℕ
@@ -53,13 +57,13 @@ weight-quiet p w = sum-quiet p _ (λ r f e. go (p r) (w r) (omega arith))
     go true k e = absurd (omega arith)
     go false k e = refl
 
+pub within-quiet : (p : ℕ → Bool) (w : ℕ → ℕ) (F : Forest) → chosenIn p F ≡ 0 → withinIn w p F ≡ 0
+within-quiet p w = sum-quiet p _ (λ r f e. ap (λ k. pick (positive k) (w r) 0) e)
+
 module _ (o : List ℕ) (p : ℕ → Bool) where
   -- a record's branch counts where, of c chosen records, some are at or below it and some are not
   abbrev pub crossing : ℕ → ℕ → Forest → ℕ
   crossing c r f = pick (positive (one (p r) + chosenIn p f) && positive (c - (one (p r) + chosenIn p f))) (branch o r) 0
-
-  pub rooted-quiet : (F : Forest) → chosenIn p F ≡ 0 → rootedIn o p F ≡ 0
-  rooted-quiet = sum-quiet p _ (λ r f e. ap (λ k. pick (positive k) (branch o r) 0) e)
 
   pub unrooted-quiet : (F : Forest) → chosenIn p F ≡ 0 → unrootedIn o p F ≡ 0
   unrooted-quiet empty e = refl

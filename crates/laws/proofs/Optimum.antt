@@ -10,14 +10,14 @@ use lib.Dec.{eqb, leb}
 use lib.ListN.{getD}
 use borrow.Author.Tests.{lt-ltb}
 use Rattle.lists.specs.Lists.{pick}
-use Rattle.outline.specs.Outline.{records, price}
+use Rattle.outline.specs.Outline.{records}
 use Rattle.diversity.specs.Diversity.{chosen, diversity, cost}
 use Rattle.diversity.specs.Behind.{Fits, IsSet, Behind, less-diversity, more-cost, lacks-first}
 use Rattle.diversity.specs.Search.{subsets, better, Incumbent, nothing, holding, turn, exhaustiveSearch, setOf, optimum, bestDiversity, leastCost}
 use Rattle.laws.specs.Candidate.{Value, beats, Cand, none, some, betterOf, oneAt}
 use Rattle.laws.specs.Numbers.{worth}
 use Rattle.laws.proofs.Order.{more, cheaper, earlier, AtLeast}
-use Rattle.laws.proofs.Sums.{total-uncounted}
+use Rattle.laws.proofs.FewTaxa.{cost-empty}
 use Rattle.laws.proofs.Best.{from-some, covers-none, covers-some, Best, best-unique, best-same, best-none, best-one, best-either}
 use Rattle.laws.proofs.Marks.{Marked, done, leave, marked-set, set-marked, subsets-exactly, leads-lacks}
 use Rattle.laws.proofs.SetOrder.{better-beats}
@@ -131,8 +131,8 @@ none-at (r ∷ rs) zero = refl
 none-at (r ∷ rs) (suc i) = none-at rs i
 
 none-cost : (o : List ℕ) → cost o (noMarks (records o)) ≡ 0
-unfolding cost chosen
-none-cost o = total-uncounted _ (price o) (records o) (λ r. ap (λ (k : ℕ). eqb k 1) (none-at (records o) (r - 1)))
+unfolding chosen
+none-cost o = cost-empty o (noMarks (records o)) (λ r. ap (λ (k : ℕ). eqb k 1) (none-at (records o) (r - 1)))
 
 -- ---- what the search ends with
 module _ (o : List ℕ) (way b : ℕ) where

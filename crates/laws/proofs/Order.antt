@@ -1,5 +1,5 @@
 -- The order of values: total, transitive, antisymmetric, kept by sums; and the better of two candidates, in whatever order they come.
-use Prim.Native.Nat.{ℕ, _<_}
+use Prim.Native.Nat.{_<_}
 use mathlib.Core.Path.{_≡_, refl, sym, ap, subst, _∙_}
 use mathlib.Core.Logic.{_⊎_, inl, inr, _≢_}
 use mathlib.Core.Bool.{Bool, true, false, _||_, _&&_}
@@ -8,7 +8,7 @@ use native.Mathlib.Nat.{eq-or-lt-of-le}
 use lib.Dec.{eqb, ltb}
 use borrow.Author.Tests.{ltb-true, ltb-false, eqb-true, eqb-false}
 use Rattle.lists.specs.Lists.{pick}
-use Rattle.laws.specs.Candidate.{Value, plus, charge, beats, Cand, none, some, betterOf}
+use Rattle.laws.specs.Candidate.{Value, plus, nothingWorth, beats, Cand, none, some, betterOf}
 
 -- v is better than w
 pub data Beats (v w : Value) : Type 0 where
@@ -65,19 +65,11 @@ plus-assoc u v w = value-path (omega arith) (omega arith) (omega arith)
 pub plus-comm : (v w : Value) → plus v w ≡ plus w v
 plus-comm v w = value-path (omega arith) (omega arith) (omega arith)
 
--- a charge is a sum with a branch alone
-branchAlone : ℕ → Value
-branchAlone n = record { diversity = n; cost = 0; code = 0 }
+pub nothing-plus : (v : Value) → plus nothingWorth v ≡ v
+nothing-plus v = value-path (omega arith) (omega arith) (omega arith)
 
-charge-plus : (v : Value) (n : ℕ) → charge v n ≡ plus v (branchAlone n)
-unfolding branchAlone
-charge-plus v n = value-path refl (omega arith) (omega arith)
-
-pub atleast-charge : {v w : Value} (n : ℕ) → AtLeast v w → AtLeast (charge v n) (charge w n)
-atleast-charge {v} {w} n p = rw (charge-plus v n, charge-plus w n) (atleast-plus (branchAlone n) p)
-
-pub plus-charge : (v w : Value) (n : ℕ) → plus (charge v n) w ≡ charge (plus v w) n
-plus-charge v w n = value-path (omega arith) refl refl
+pub plus-nothing : (v : Value) → plus v nothingWorth ≡ v
+plus-nothing v = plus-comm v nothingWorth ∙ nothing-plus v
 
 pub atleast-both : {v w x y : Value} → AtLeast v w → AtLeast x y → AtLeast (plus v x) (plus w y)
 atleast-both {v} {w} {x} {y} p q = atleast-trans (atleast-plus x p) (rw (plus-comm w x, plus-comm w y) (atleast-plus w q))
@@ -127,6 +119,14 @@ beats-false {v} {w} p = go (beats w v) (beats-decides w v) p
     go true q (inl e) = absurd (beats-not-self (subst (λ (x : Value). Beats x v) e q))
     go true q (inr r) = absurd (beats-not-self (beats-trans q r))
     go false q r = refl
+
+-- the same added to both changes nothing
+pub beats-same-plus : (u v w : Value) → beats (plus u v) (plus u w) ≡ beats v w
+beats-same-plus u v w = rw (plus-comm u v, plus-comm u w) (go (beats v w) (beats-decides v w))
+  where
+    go : (t : Bool) → Decided v w t → beats (plus v u) (plus w u) ≡ t
+    go true p = beats-true (beats-plus u p)
+    go false p = beats-false (atleast-plus u p)
 
 pub better-none : (c : Cand) → betterOf c none ≡ c
 unfolding betterOf

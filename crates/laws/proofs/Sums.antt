@@ -31,6 +31,10 @@ pub positive-some : (n : ℕ) → positive n ≡ true → 0 < n
 positive-some zero e = absurd (false≢true e)
 positive-some (suc n) e = omega arith
 
+pub pick-zero : (b : Bool) → pick {A = ℕ} b 0 0 ≡ 0
+pick-zero true = refl
+pick-zero false = refl
+
 -- some element passes where the number of those that pass is not 0
 pub anywhere-count : (p : ℕ → Bool) (xs : List ℕ) → anywhere p xs ≡ positive (total (λ x. one (p x)) xs)
 unfolding anywhere total

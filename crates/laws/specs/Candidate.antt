@@ -1,4 +1,4 @@
--- Candidates: what a set of taxa is worth, which of two is better, the sum of two, and one charged with a branch.
+-- Candidates: what a set of taxa is worth, which of two is better, the sum of two, and one below a heading.
 use Prim.Native.Nat.{ℕ, _+_}
 use mathlib.Core.Bool.{Bool, _||_, _&&_}
 use lib.Dec.{eqb, ltb, leb}
@@ -18,9 +18,9 @@ plus v w = record { diversity = v .diversity + w .diversity; cost = v .cost + w 
 abbrev pub nothingWorth : Value
 nothingWorth = record { diversity = 0; cost = 0; code = 0 }
 
--- with a branch of length n above
-abbrev pub charge : Value → ℕ → Value
-charge v n = record { diversity = v .diversity + n; cost = v .cost; code = v .code }
+-- a heading: a branch and a price, and no taxon
+abbrev pub heading : ℕ → ℕ → Value
+heading length price = record { diversity = length; cost = price; code = 0 }
 
 -- more diversity, then less cost, then the first taxon on which they differ
 unfoldable pub beats : Value → Value → Bool
@@ -44,9 +44,9 @@ joinOf none c = none
 joinOf (some v) none = none
 joinOf (some v) (some w) = some (plus v w)
 
-unfoldable pub chargeOf : Cand → ℕ → Cand
-chargeOf none n = none
-chargeOf (some v) n = some (charge v n)
+-- a set below a heading is charged with its branch and its price
+abbrev pub chargeOf : Cand → ℕ → ℕ → Cand
+chargeOf c length price = joinOf (some (heading length price)) c
 
 -- the one value, where it fits b
 unfoldable pub oneAt : Value → ℕ → Cand

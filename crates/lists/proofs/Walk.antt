@@ -95,6 +95,12 @@ lowest-from p k (suc n) = go (p k) refl (lowest-from p (k + 1) n)
     go true e ih = rw e (here {r = k} (omega arith) (omega arith) e (λ q l u. absurd (omega arith)))
     go false e ih = rw e (lowest-later p k n e ih)
 
+-- tests that agree have the same lowest
+pub lowest-ext : (p q : ℕ → Bool) (k n : ℕ) → ((r : ℕ) → k ≤ r → r < k + n → p r ≡ q r) → lowest p (from k n) ≡ lowest q (from k n)
+unfolding lowest from
+lowest-ext p q k zero h = refl
+lowest-ext p q k (suc n) h = rw (h k (omega arith) (omega arith), lowest-ext p q (k + 1) n (λ r l u. h r (omega arith) (omega arith))) refl
+
 module _ (p : ℕ → Bool) (n : ℕ) where
   -- where the lowest is 0, the test holds nowhere
   pub lowest-none : lowest p (from 1 n) ≡ 0 → (r : ℕ) → 1 ≤ r → r ≤ n → p r ≡ false

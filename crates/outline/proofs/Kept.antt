@@ -32,7 +32,6 @@ pub record Ranged (o : List ℕ) (r : ℕ) : Type 0 where
   pub branch-most : branch o r ≤ 1000000
   pub price-most : price o r ≤ 65535
   pub taxon-plate : isTaxon o r ≡ true → 1 ≤ plate o r
-  pub group-price : isTaxon o r ≡ false → price o r ≡ 0
   pub group-plate : isTaxon o r ≡ false → plate o r ≡ 0
 
 pub record Kept (o : List ℕ) : Type 0 where
@@ -56,18 +55,15 @@ module _ (o : List ℕ) (r : ℕ) where
         branch-most = ltb-false _ _ (e′ .0);
         price-most = ltb-false _ _ (f .0);
         taxon-plate = λ _. omega arith;
-        group-price = λ g. absurd (false≢true (sym g ∙ t));
         group-plate = λ g. absurd (false≢true (sym g ∙ t));
       }
   ranged-by false t e =
       let e′ = both-false _ _ (simp t at e) in
       let f = both-false _ _ (e′ .1) in
-      let p : price o r ≡ 0 = eqb-true _ _ (not-false _ (f .0)) in
       record {
         branch-most = ltb-false _ _ (e′ .0);
-        price-most = omega arith;
+        price-most = ltb-false _ _ (f .0);
         taxon-plate = λ g. absurd (false≢true (sym t ∙ g));
-        group-price = λ _. p;
         group-plate = λ _. eqb-true _ _ (not-false _ (f .1));
       }
 

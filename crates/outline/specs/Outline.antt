@@ -33,7 +33,7 @@ first o r = short o (16 * (r - 1) + 2)
 abbrev pub branch : List ℕ → ℕ → ℕ
 branch o r = long o (16 * (r - 1) + 4)
 
--- bytes 8 to 11: the price, in quarters
+-- bytes 8 to 11: the price of a taxon's plate or of a group's heading, in quarters
 abbrev pub price : List ℕ → ℕ → ℕ
 price o r = long o (16 * (r - 1) + 8)
 

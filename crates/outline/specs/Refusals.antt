@@ -9,12 +9,11 @@ use Rattle.lists.specs.Lists.{pick, one, from, anywhere, total, lowest}
 use Rattle.refusals.specs.Refusals.{Told, _▸_, row, rowAt}
 use Rattle.outline.specs.Outline.{size, records, next, first, branch, price, plate, isTaxon}
 
--- refusal 5: length, price or plate outside its range. A taxon's plate is not 0, a group's price and plate are
+-- refusal 5: length, price or plate outside its range. A taxon's plate is not 0, a group's is
 unfoldable pub badField : List ℕ → ℕ → Bool
 badField o r =
-    let badTaxon = ltb 65535 (price o r) || eqb (plate o r) 0 in
-    let badGroup = not (eqb (price o r) 0) || not (eqb (plate o r) 0) in
-    ltb 1000000 (branch o r) || pick (isTaxon o r) badTaxon badGroup
+    let badPlate = pick (isTaxon o r) (eqb (plate o r) 0) (not (eqb (plate o r) 0)) in
+    ltb 1000000 (branch o r) || (ltb 65535 (price o r) || badPlate)
 
 -- a link of record r that isn't 0 and isn't a later record's number up to N
 abbrev pub stray : List ℕ → ℕ → ℕ → Bool

@@ -29,12 +29,12 @@ fn bad_field(o: &[u8], r: usize) -> bool
     ensures { λ v. ⌜ v ≡ badField (now (o .entry)) r ⌝ }
 {
     let long = MOST_LENGTH < branch_of(o, r);
-    let price = price_of(o, r);
+    let dear = MOST_PRICE < price_of(o, r);
     let plate = plate_of(o, r);
     if is_taxon(o, r) {
-        long | ((MOST_PRICE < price) | (plate == 0))
+        long | (dear | (plate == 0))
     } else {
-        long | ((price != 0) | (plate != 0))
+        long | (dear | (plate != 0))
     }
 }
 

@@ -35,7 +35,10 @@ pub fn fields() {
     changed(b"plate 1", 3, [4, 0, 4, 3, 1]);
     changed(b"plate 16,777,216", 3, [4, 0, 4, 3, 16777216]);
     changed(b"plate 4,294,967,295", 3, [4, 0, 4, 3, 4294967295]);
-    changed(b"group with a price", 2, [5, 3, 3, 1, 0]);
+    changed(b"group with price 65,535", 2, [5, 3, 3, 65535, 0]);
+    changed(b"group with price 65,536", 2, [5, 3, 3, 65536, 0]);
+    changed(b"root with price 65,535", 1, [0, 2, 0, 65535, 0]);
+    changed(b"root with price 65,536", 1, [0, 2, 0, 65536, 0]);
     changed(b"group with a plate", 2, [5, 3, 3, 0, 14]);
     let mut buffer = tree_a_with(5, [0, 0, 5, 65536, 13]);
     put(&mut buffer, 3, [4, 0, 4, 3, 0]);

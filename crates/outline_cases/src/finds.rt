@@ -5,6 +5,7 @@ use samples::outlines::one_record;
 use samples::outlines::star;
 use samples::outlines::tree_a;
 use samples::outlines::tree_a_with;
+use samples::outlines::tree_a_with_headings;
 
 // In tree A first. Plate 0 is no taxon's, though it stands in the groups.
 pub fn in_accepted() {
@@ -19,6 +20,9 @@ pub fn in_accepted() {
     find(b" in one taxon", &highest, 16, 4294967295);
     find(b" in one taxon", &highest, 16, 65535);
     find(b" among 64 taxa", &star(65, 0, 0), 1040, 65);
+    let headings = tree_a_with_headings(99, 65535);
+    find(b" under headings 99 and 65,535", &headings, 80, 12);
+    find(b" under headings 99 and 65,535", &headings, 80, 99);
 }
 
 // A refused outline gives nothing, though the plate is there.
@@ -27,6 +31,8 @@ pub fn in_refused() {
     find(b" in 128 records", &comb(128, 0, 0), 2048, 2);
     let field = tree_a_with(5, [0, 0, 5, 65536, 13]);
     find(b" beside a bad field", &field, 80, 11);
+    let heading = tree_a_with_headings(0, 65536);
+    find(b" under a heading of 65,536", &heading, 80, 11);
     let link = tree_a_with(5, [6, 0, 5, 2, 13]);
     find(b" beside a bad link", &link, 80, 11);
     find(b" among 65 taxa", &star(66, 0, 0), 1056, 2);

@@ -1,5 +1,5 @@
-// The check and the finder of outlines, run on cases whose answers document 01 settles. A line is printed for each case:
-// what is special about the outline, and the refusal's number and place, `0 0` if there is none; or the plate to find,
+// The check and the finder of outlines, run on cases whose answers documents 01 and 02 settle. A line is printed for each
+// case: what is special about the outline, and the refusal's number and place, `0 0` if there is none; or the plate to find,
 // and the fields of the record found: next, first, length, price, plate.
 mod checks;
 mod finds;

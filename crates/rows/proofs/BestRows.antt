@@ -1,35 +1,16 @@
--- The best candidate of sums and of charges, and rows that hold the best candidate in each column.
+-- The best candidate of sums, and rows that hold the best candidate in each column.
 use Prim.Native.Nat.{ℕ, _+_, _-_, _≤_}
 use mathlib.Core.Path.{_≡_, refl, ap}
 use mathlib.Core.Logic.{_⊎_}
 use native.Mathlib.Omega.{arith}
-use Rattle.laws.specs.Candidate.{Value, plus, charge, Cand, joinOf, chargeOf}
-use Rattle.laws.proofs.Order.{atleast-both, atleast-charge}
+use Rattle.laws.specs.Candidate.{Value, plus, Cand, joinOf}
+use Rattle.laws.proofs.Order.{atleast-both}
 use Rattle.laws.proofs.Best.{From, nothing, this, Covers, by, Best, best-one, best-either}
 use Rattle.rows.specs.Rows.{Row, betterRow, joinRow}
 
 pub covers-join : {c d : Cand} {v w : Value} → Covers c v → Covers d w → Covers (joinOf c d) (plus v w)
 unfolding joinOf
 covers-join (by p) (by q) = by (atleast-both p q)
-
-pub covers-charge : {c : Cand} {w : Value} (n : ℕ) → Covers c w → Covers (chargeOf c n) (charge w n)
-unfolding chargeOf
-covers-charge n (by p) = by (atleast-charge n p)
-
--- a branch above
-abbrev pub Charged : (Value → Type 0) → ℕ → Value → Type 0
-Charged P n v = (w : Value) × P w × (v ≡ charge w n)
-
-pub from-charge : {P : Value → Type 0} {b : ℕ} {c : Cand} (n : ℕ) → From P b c → From (Charged P n) b (chargeOf c n)
-unfolding chargeOf
-from-charge n nothing = nothing
-from-charge n (this {v} p l) = this (v, p, refl) l
-
-pub best-charge : {P : Value → Type 0} {b : ℕ} {c : Cand} (n : ℕ) → Best P b c → Best (Charged P n) b (chargeOf c n)
-best-charge n p = record {
-  is = from-charge n (p .is);
-  covers = λ w (u, h, e) l. rw e (covers-charge n (p .covers u h (rw e at l)));
-}
 
 -- rows: up to column n, each is the best for its page count
 abbrev pub BestRow : (Value → Type 0) → ℕ → Row → Type 0

@@ -15,8 +15,8 @@ use Rattle.laws.proofs.Sums.{total-ext, total-most}
 use Rattle.laws.proofs.Forest.{tree-step, sum-part}
 use Rattle.laws.proofs.Best.{From, nothing, this, from-better, from-same}
 use Rattle.laws.proofs.Numbers.{weights-below}
-use Rattle.rows.specs.Rows.{Row, betterRow, isLeaf, taxonRooted, cladeRow, pushed, rootedRow}
-use Rattle.rows.proofs.BestRows.{from-charge, from-join-row}
+use Rattle.rows.specs.Rows.{Row, betterRow, isLeaf, taxonRooted, headingRooted, cladeRow, pushed, rootedRow}
+use Rattle.rows.proofs.BestRows.{from-join-row}
 use Rattle.rows.proofs.Steps.{leaf-taxon}
 
 -- at most d of diversity, and a weigh of at most m
@@ -31,33 +31,42 @@ SmallRow d m n x = (b : ℕ) → b ≤ n → From (Small d m) b (x b)
 pub small-more : {d m : ℕ} (e n : ℕ) {b : ℕ} {c : Cand} → d ≤ e → m ≤ n → From (Small d m) b c → From (Small e n) b c
 small-more e n h k = from-same (λ v s. record { diversity-most = omega arith; code-most = omega arith })
 
--- all branches of a forest, and the codes of its taxa
+-- what all records of a forest weigh: their branches and prices; and the codes of its taxa
+abbrev pub allIn : (ℕ → ℕ) → Forest → ℕ
+allIn w F = sumIn (λ r f. w r) F
+
 abbrev pub branches : List ℕ → Forest → ℕ
-branches o F = sumIn (λ r f. branch o r) F
+branches o F = allIn (branch o) F
+
+abbrev pub prices : List ℕ → Forest → ℕ
+prices o F = allIn (price o) F
 
 abbrev pub codes : (ℕ → ℕ) → Forest → ℕ
 codes weigh F = sumIn (λ r f. pick (isLeaf f) (weigh r) 0) F
 
 module _ (o : List ℕ) (weigh : ℕ → ℕ) where
   clade-small : (r : ℕ) (f : Forest) (d m : ℕ) {x : Row} (g : Row) (b : ℕ) → SmallRow d m b x
-      → From (Small (d + branches o f) (m + codes weigh f)) b (g b)
-      → From (Small (d + (branch o r + branches o f)) (m + (pick (isLeaf f) (weigh r) 0 + codes weigh f))) b (cladeRow o weigh r (isLeaf f) x g b)
+      → SmallRow (d + branches o f) (m + codes weigh f) b g
+      → From (Small (d + (branch o r + branches o f)) (m + (pick (isLeaf f) (weigh r) 0 + codes weigh f))) b
+      (cladeRow o weigh r (isLeaf f) x g b)
   unfolding cladeRow
   clade-small r empty d m {x} g b hx hg =
       from-same (λ v (q, s, e). rw e (record { diversity-most = omega arith; code-most = omega arith }))
       (from-join-row (taxonRooted o weigh r) x b (hx (b - price o r) (omega arith)))
   clade-small r (node s h n) d m g b hx hg =
-      from-same (λ v (w, s, e). rw e (record { diversity-most = omega arith; code-most = omega arith })) (from-charge (branch o r) hg)
+      from-same (λ v (q, s, e). rw e (record { diversity-most = omega arith; code-most = omega arith }))
+      (from-join-row (headingRooted o weigh r) g b (hg (b - price o r) (omega arith)))
 
   -- pushing adds at most the forest's branches and codes
-  pub pushed-small : (F : Forest) (d m n : ℕ) {x : Row} → SmallRow d m n x → SmallRow (d + branches o F) (m + codes weigh F) n (pushed o weigh F x)
+  pub pushed-small : (F : Forest) (d m n : ℕ) {x : Row} → SmallRow d m n x
+      → SmallRow (d + branches o F) (m + codes weigh F) n (pushed o weigh F x)
   unfolding pushed
   pushed-small empty d m n hx b l = nothing
   pushed-small (node r f k) d m n {x} hx b l =
       let y = pushed-small k d m n hx in
       let follow : SmallRow (d + branches o k) (m + codes weigh k) n (betterRow x (pushed o weigh k x)) =
       λ i h. from-better (small-more _ _ (omega arith) (omega arith) (hx i h)) (y i h) in
-      let z = clade-small r f _ _ _ b (λ i h. follow i (omega arith)) (pushed-small f _ _ n follow b l) in
+      let z = clade-small r f _ _ _ b (λ i h. follow i (omega arith)) (λ i h. pushed-small f _ _ n follow i (omega arith)) in
       from-better (small-more _ _ (omega arith) (omega arith) z) (small-more _ _ (omega arith) (omega arith) (y b l))
 
   pub rooted-small : (F : Forest) (b : ℕ) → From (Small (branches o F) (codes weigh F)) b (rootedRow o weigh F b)
@@ -67,12 +76,12 @@ module _ (o : List ℕ) (weigh : ℕ → ℕ) where
       (pushed-small F 0 0 b (λ i l. this (record { diversity-most = omega arith; code-most = omega arith }) (omega arith)) b (omega arith))
 
 -- the same by links, and against the sums over all records
-module _ (o : List ℕ) (linked : Linked o) (r : ℕ) (u : r ≤ size o) where
-  pub branches-most : branches o (tree o r) ≤ total (branch o) (records o)
-  branches-most = sum-part o linked (λ q f. branch o q) r u
+module _ (o : List ℕ) (linked : Linked o) (w : ℕ → ℕ) (r : ℕ) (u : r ≤ size o) where
+  pub all-most : allIn w (tree o r) ≤ total w (records o)
+  all-most = sum-part o linked (λ q f. w q) r u
 
-  pub branches-step : 1 ≤ r → branches o (tree o r) ≡ branch o r + (branches o (tree o (first o r)) + branches o (tree o (next o r)))
-  branches-step l = ap (branches o) (tree-step o linked r l u)
+  pub all-step : 1 ≤ r → allIn w (tree o r) ≡ w r + (allIn w (tree o (first o r)) + allIn w (tree o (next o r)))
+  all-step l = ap (allIn w) (tree-step o linked r l u)
 
 module _ (o : List ℕ) (linked : Linked o) (weigh : ℕ → ℕ) (r : ℕ) (u : r ≤ size o) where
   pub codes-most : codes weigh (tree o r) ≤ total (λ q. pick (isTaxon o q) (weigh q) 0) (records o)
@@ -89,17 +98,17 @@ module _ (o : List ℕ) (linked : Linked o) (weigh : ℕ → ℕ) (r : ℕ) (u :
     pub codes-step : codes weigh (tree o r) ≡ pick (isTaxon o r) (weigh r) 0 + (codes weigh (tree o (first o r)) + codes weigh (tree o (next o r)))
     codes-step = ap (codes weigh) (tree-step o linked r l u) ∙ rw (leaf-taxon o linked r l u)
 
--- what an accepted outline allows: 127 records with branches of a million, 64 taxa
+-- what an accepted outline allows: 127 records with branches of a million and prices of 65,535, 64 taxa
 module _ (o : List ℕ) (kept : Kept o) (r : ℕ) (u : r ≤ size o) where
-  pub branches-limit : branches o (tree o r) ≤ mostRecords * 1000000
+  all-limit : (w : ℕ → ℕ) (k : ℕ) → ((q : ℕ) → 1 ≤ q → q ≤ size o → w q ≤ k) → allIn w (tree o r) ≤ size o * k
   unfolding records
-  branches-limit =
-      omega (
-        arith,
-        kept .size-most,
-        branches-most o (kept .linked) r u,
-        total-most (branch o) 1000000 1 (size o) (λ q l h. kept .ranged q l (omega arith) .branch-most),
-      )
+  all-limit w k most = omega (arith, all-most o (kept .linked) w r u, total-most w k 1 (size o) (λ q l h. most q l (omega arith)))
+
+  pub branches-limit : branches o (tree o r) ≤ mostRecords * 1000000
+  branches-limit = omega (arith, kept .size-most, all-limit (branch o) 1000000 (λ q l h. kept .ranged q l h .branch-most))
+
+  pub prices-limit : prices o (tree o r) ≤ mostRecords * 65535
+  prices-limit = omega (arith, kept .size-most, all-limit (price o) 65535 (λ q l h. kept .ranged q l h .price-most))
 
   pub codes-limit : codes (weight o) (tree o r) < 2 ^ mostTaxa
   unfolding taxa taxaIn

@@ -3,17 +3,18 @@ use Prim.Native.Nat.{ℕ, _-_, _≤_}
 use mathlib.Core.Path.{_≡_, refl, sym, ap, _∙_}
 use mathlib.Core.Bool.{Bool}
 use mathlib.Core.List.{List}
-use mathlib.Core.Logic.{_⊎_, inl, inr, ⊎-elim}
+use mathlib.Core.Logic.{_⊎_, inl, inr}
 use native.Mathlib.Omega.{arith}
 use borrow.Author.Tests.{eq-eqb}
+use Rattle.outline.specs.Outline.{price}
 use Rattle.lists.specs.Lists.{one}
-use Rattle.outline.specs.Outline.{branch, price}
 use Rattle.laws.specs.Forest.{Forest, empty, node, countIn}
-use Rattle.laws.specs.Candidate.{Value, plus, charge, nothingWorth, Cand, betterOf}
-use Rattle.laws.proofs.Order.{value-path, plus-comm, plus-assoc, plus-charge}
+use Rattle.laws.specs.Candidate.{Value, plus, nothingWorth, Cand, betterOf}
+use Rattle.laws.proofs.Order.{plus-comm, plus-assoc, plus-nothing}
 use Rattle.laws.proofs.Best.{Best, best-same, best-unique, best-none, best-nothing, best-one, best-either}
-use Rattle.rows.specs.Rows.{Row, isLeaf, taxonRooted, taxonUnrooted, cladeRow, pushed, rootedRow, aloneRow, crossRow, singleRow, acrossRow}
-use Rattle.rows.proofs.BestRows.{BestRow, Plus, best-charge, row-either, best-join-row}
+use Rattle.rows.specs.Rows.{Row, isLeaf, taxonRooted, taxonUnrooted, headingRooted, headingUnrooted, cladeRow, pushed, rootedRow}
+use Rattle.rows.specs.Rows.{aloneRow, crossRow, insideRow, acrossRow}
+use Rattle.rows.proofs.BestRows.{BestRow, Plus, row-either, best-join-row}
 use Rattle.rows.proofs.Sets.{WorthOfSet, Splits, Parts, sets-empty, rootedWorth, unrootedWorth, rooted-splits, unrooted-splits}
 use Rattle.rows.proofs.Sets.{sets-parted, sets-joined, rooted-taxon, unrooted-taxon, rooted-group, unrooted-group}
 
@@ -39,12 +40,13 @@ module _ (o : List ℕ) (weigh : ℕ → ℕ) where
       (best-join-row (taxonRooted o weigh r) _ b (hx (b - price o r) (omega arith)))
   clade-best r (node s g m) apart n hx hg b l =
       let group = rooted-group o weigh r (node s g m) refl apart in
+      let h = headingRooted o weigh r in
       best-same
-      (λ v (w, (p, q, h, k, d), e). (charge p (branch o r), q, group _ .1 (p, h, refl), k, e ∙ ap (λ w. charge w (branch o r)) d ∙ sym (plus-charge p q (branch o r))))
-      (λ v (p, q, h, k, e).
-      let (w, j, d) = group p .0 h in
-      (plus w q, (w, q, j, k, refl), e ∙ ap (λ p. plus p q) d ∙ plus-charge w q (branch o r)))
-      (best-charge (branch o r) (hg b l))
+      (λ v (w, (p, q, i, k, d), e). (plus h p, q, group _ .1 (p, i, refl), k, e ∙ ap (plus h) d ∙ sym (plus-assoc h p q)))
+      (λ v (p, q, i, k, e).
+      let (w, j, d) = group p .0 i in
+      (plus w q, (w, q, j, k, refl), e ∙ ap (λ p. plus p q) d ∙ plus-assoc h w q))
+      (best-join-row h _ b (hg (b - price o r) (omega arith)))
 
   -- a value of the forest together with one of X, by what the forest's first clade and its rest give
   module _ (X : Value → Type 0) (r : ℕ) (f n : Forest) (once : Once (node r f n)) (v : Value) where
@@ -77,9 +79,6 @@ module _ (o : List ℕ) (weigh : ℕ → ℕ) where
       best-same (of-pushed X r f m once) (to-pushed X r f m once) (best-either (z b l) (y b l))
 
   -- with nothing to follow, the best of a set of the forest
-  plus-nothing : (v : Value) → plus v nothingWorth ≡ v
-  plus-nothing v = value-path (omega arith) (omega arith) (omega arith)
-
   pub rooted-best : (F : Forest) → Once F → (b : ℕ) → Best (Rooted F) b (rootedRow o weigh F b)
   unfolding rootedRow
   rooted-best F once b =
@@ -101,13 +100,13 @@ module _ (o : List ℕ) (weigh : ℕ → ℕ) where
         → Best (WorthOfSet worth (node r f n)) b (betterOf (betterOf c d) (crossRow o weigh r (isLeaf f) f n b))
     chain-best splits p q = best-same (sets-joined o weigh splits r f n once) (sets-parted o weigh splits r f n) (best-either (best-either p q) cross-best)
 
-  alone-best : (r : ℕ) (f : Forest) → countIn r f ≡ 0 → (b : ℕ) → Best (Rooted f) b (rootedRow o weigh f b)
-      → Best (Rooted (node r f empty)) b (aloneRow o weigh r (isLeaf f) f b)
+  alone-best : (r : ℕ) (f : Forest) → countIn r f ≡ 0 → ((b : ℕ) → Best (Rooted f) b (rootedRow o weigh f b))
+      → (b : ℕ) → Best (Rooted (node r f empty)) b (aloneRow o weigh r (isLeaf f) f b)
   unfolding aloneRow
-  alone-best r empty apart b h = best-same (λ v. rooted-taxon o weigh r v .1) (λ v. rooted-taxon o weigh r v .0) (best-one (taxonRooted o weigh r) b)
-  alone-best r (node s g m) apart b h =
+  alone-best r empty apart h b = best-same (λ v. rooted-taxon o weigh r v .1) (λ v. rooted-taxon o weigh r v .0) (best-one (taxonRooted o weigh r) b)
+  alone-best r (node s g m) apart h b =
       let group = rooted-group o weigh r (node s g m) refl apart in
-      best-same (λ v. group v .1) (λ v. group v .0) (best-charge (branch o r) h)
+      best-same (λ v. group v .1) (λ v. group v .0) (best-join-row (headingRooted o weigh r) _ b (h (b - price o r)))
 
   -- the rooted row of a chain from its parts
   pub rooted-chain : (r : ℕ) (f n : Forest) → Once (node r f n) → (b : ℕ)
@@ -115,7 +114,7 @@ module _ (o : List ℕ) (weigh : ℕ → ℕ) where
   rooted-chain r f n once b =
       best-unique (rooted-best (node r f n) once b)
       (chain-best r f n once b (rooted-splits o weigh)
-      (alone-best r f (not-below r f n once) b (rooted-best f (λ t. omega (arith, once t)) b)) (rooted-best n (λ t. omega (arith, once t)) b))
+      (alone-best r f (not-below r f n once) (rooted-best f (λ t. omega (arith, once t))) b) (rooted-best n (λ t. omega (arith, once t)) b))
 
   -- a clade with the rest of its chain, either pushed over the other
   pub cross-swapped : (r : ℕ) (f n : Forest) → Once (node r f n) → (b : ℕ)
@@ -124,7 +123,7 @@ module _ (o : List ℕ) (weigh : ℕ → ℕ) where
       best-unique (cross-best r f n once b)
       (best-same swap swap
       (pushed-best n (λ t. omega (arith, once t)) b
-      (λ i l. alone-best r f (not-below r f n once) i (rooted-best f (λ t. omega (arith, once t)) i)) b (omega arith)))
+      (λ i l. alone-best r f (not-below r f n once) (rooted-best f (λ t. omega (arith, once t))) i) b (omega arith)))
     where
       swap : {P Q : Value → Type 0} (v : Value) → Plus P Q v → Plus Q P v
       swap v (p, q, h, k, e) = (q, p, k, h, e ∙ plus-comm p q)
@@ -132,15 +131,13 @@ module _ (o : List ℕ) (weigh : ℕ → ℕ) where
   abbrev pub Unrooted : Forest → Value → Type 0
   Unrooted F v = WorthOfSet (unrootedWorth o weigh) F v
 
-  single-best : (r : ℕ) (f : Forest) → countIn r f ≡ 0 → (b : ℕ) {c : Cand} → Best (Unrooted f) b c
-      → Best (Unrooted (node r f empty)) b (betterOf (singleRow o weigh r (isLeaf f) b) c)
-  unfolding singleRow betterOf
-  single-best r empty apart b h =
-      best-same (λ v. ⊎-elim (unrooted-taxon o weigh r v .1) (λ x. absurd (sets-empty x))) (λ v x. inl (unrooted-taxon o weigh r v .0 x))
-      (best-either (best-one (taxonUnrooted o weigh r) b) h)
-  single-best r (node s g m) apart b h =
+  inside-best : (r : ℕ) (f : Forest) → countIn r f ≡ 0 → {g : Row} → ((b : ℕ) → Best (Unrooted f) b (g b))
+      → (b : ℕ) → Best (Unrooted (node r f empty)) b (insideRow o weigh r (isLeaf f) g b)
+  unfolding insideRow
+  inside-best r empty apart h b = best-same (λ v. unrooted-taxon o weigh r v .1) (λ v. unrooted-taxon o weigh r v .0) (best-one (taxonUnrooted o weigh r) b)
+  inside-best r (node s g m) apart h b =
       let group = unrooted-group o weigh r (node s g m) refl apart in
-      best-same (λ v. group v .1) (λ v. group v .0) h
+      best-same (λ v. group v .1) (λ v. group v .0) (best-join-row (headingUnrooted o weigh r) _ b (h (b - price o r)))
 
   -- the unrooted row holds the best of a set of the forest
   pub across-best : (F : Forest) → Once F → (b : ℕ) → Best (Unrooted F) b (acrossRow o weigh F b)
@@ -148,4 +145,4 @@ module _ (o : List ℕ) (weigh : ℕ → ℕ) where
   across-best empty once b = best-none (λ v. sets-empty)
   across-best (node r f n) once b =
       chain-best r f n once b (unrooted-splits o weigh)
-      (single-best r f (not-below r f n once) b (across-best f (λ t. omega (arith, once t)) b)) (across-best n (λ t. omega (arith, once t)) b)
+      (inside-best r f (not-below r f n once) (across-best f (λ t. omega (arith, once t))) b) (across-best n (λ t. omega (arith, once t)) b)

@@ -10,12 +10,12 @@ use borrow.Author.Tests.{eq-eqb}
 use Rattle.lists.specs.Lists.{pick, one}
 use Rattle.outline.specs.Outline.{branch, price}
 use Rattle.laws.specs.Forest.{Forest, empty, node, sumIn, countIn, isGroup}
-use Rattle.laws.specs.Candidate.{Value, plus, charge}
+use Rattle.laws.specs.Candidate.{Value, plus}
 use Rattle.laws.proofs.Sums.{one-true, one-false, positive, positive-true}
-use Rattle.laws.proofs.Measures.{chosenIn, groupsIn, weightIn, costIn, rootedIn, across, unrootedIn, rooted-quiet, weight-quiet}
+use Rattle.laws.proofs.Measures.{chosenIn, groupsIn, weightIn, withinIn, costIn, rootedIn, across, unrootedIn, weight-quiet, within-quiet}
 use Rattle.laws.proofs.Order.{value-path}
-use Rattle.rows.specs.Rows.{taxonRooted, taxonUnrooted}
-use Rattle.rows.proofs.BestRows.{Charged, Plus}
+use Rattle.rows.specs.Rows.{taxonRooted, taxonUnrooted, headingRooted, headingUnrooted}
+use Rattle.rows.proofs.BestRows.{Plus, Shifted}
 
 -- two sets choose alike among the records of a forest
 abbrev pub Agree : (ℕ → Bool) → (ℕ → Bool) → Forest → Type 0
@@ -39,15 +39,22 @@ module _ (p q : ℕ → Bool) where
   pub weight-agree : (w : ℕ → ℕ) (F : Forest) → Agree p q F → weightIn w p F ≡ weightIn w q F
   weight-agree w = sum-agree p q _ _ (λ r f e a. ap (λ b. pick b (w r) 0) e)
 
-  pub rooted-agree : (o : List ℕ) (F : Forest) → Agree p q F → rootedIn o p F ≡ rootedIn o q F
-  rooted-agree o = sum-agree p q _ _ (λ r f e a. ap₂ (λ b k. pick (positive (one b + k)) (branch o r) 0) e (chosen-agree f a))
+  pub within-agree : (w : ℕ → ℕ) (F : Forest) → Agree p q F → withinIn w p F ≡ withinIn w q F
+  within-agree w = sum-agree p q _ _ (λ r f e a. ap₂ (λ b k. pick (positive (one b + k)) (w r) 0) e (chosen-agree f a))
 
   pub unrooted-agree : (o : List ℕ) (F : Forest) → Agree p q F → unrootedIn o p F ≡ unrootedIn o q F
   unrooted-agree o empty a = refl
   unrooted-agree o (node r f n) a =
       let below : Agree p q f = λ t h. a t (omega arith) in
       let rest : Agree p q n = λ t h. a t (omega arith) in
-      rw (rooted-agree o (node r f n) a, unrooted-agree o f below, unrooted-agree o n rest, chosen-agree n rest, chosen-agree f below, a r (omega (arith, ap one (eq-eqb r r refl)))) refl
+      rw (
+        within-agree (branch o) (node r f n) a,
+        unrooted-agree o f below,
+        unrooted-agree o n rest,
+        chosen-agree n rest,
+        chosen-agree f below,
+        a r (omega (arith, ap one (eq-eqb r r refl))),
+      ) refl
 
 -- q among the records of F, and p elsewhere
 abbrev pub merged : (ℕ → Bool) → (ℕ → Bool) → Forest → ℕ → Bool
@@ -108,21 +115,21 @@ module _ (o : List ℕ) (weigh : ℕ → ℕ) where
 
   pub rooted-splits : Splits rootedWorth
   rooted-splits = record {
-    agree = λ p q F a. value-path (rooted-agree p q o F a) (weight-agree p q (price o) F a) (weight-agree p q weigh F a);
+    agree = λ p q F a. value-path (within-agree p q (branch o) F a) (within-agree p q (price o) F a) (weight-agree p q weigh F a);
     clade-only = λ p r f n z.
-        value-path (omega (arith, rooted-quiet o p n z)) (omega (arith, weight-quiet p (price o) n z)) (omega (arith, weight-quiet p weigh n z));
+        value-path (omega (arith, within-quiet p (branch o) n z)) (omega (arith, within-quiet p (price o) n z)) (omega (arith, weight-quiet p weigh n z));
     rest-only = λ p r f n z h. let C = node r f empty in
-        value-path (omega (arith, rooted-quiet o p C z)) (omega (arith, weight-quiet p (price o) C z)) (omega (arith, weight-quiet p weigh C z));
+        value-path (omega (arith, within-quiet p (branch o) C z)) (omega (arith, within-quiet p (price o) C z)) (omega (arith, weight-quiet p weigh C z));
     both = λ p r f n g h. value-path (omega arith) (omega arith) (omega arith);
   }
 
   pub unrooted-splits : Splits unrootedWorth
   unrooted-splits = record {
-    agree = λ p q F a. value-path (unrooted-agree p q o F a) (weight-agree p q (price o) F a) (weight-agree p q weigh F a);
+    agree = λ p q F a. value-path (unrooted-agree p q o F a) (within-agree p q (price o) F a) (weight-agree p q weigh F a);
     clade-only = λ p r f n z.
-        value-path (across-members _ _ _ _ _ z) (omega (arith, weight-quiet p (price o) n z)) (omega (arith, weight-quiet p weigh n z));
+        value-path (across-members _ _ _ _ _ z) (omega (arith, within-quiet p (price o) n z)) (omega (arith, weight-quiet p weigh n z));
     rest-only = λ p r f n z h. let C = node r f empty in
-        value-path (across-rest _ _ _ _ _ (omega arith) h) (omega (arith, weight-quiet p (price o) C z)) (omega (arith, weight-quiet p weigh C z));
+        value-path (across-rest _ _ _ _ _ (omega arith) h) (omega (arith, within-quiet p (price o) C z)) (omega (arith, weight-quiet p weigh C z));
     both = λ p r f n g h. value-path (across-both _ _ _ _ _ (omega arith) h ∙ omega arith) (omega arith) (omega arith);
   }
 
@@ -210,15 +217,8 @@ module _ (o : List ℕ) (weigh : ℕ → ℕ) where
   pub unrooted-taxon : (r : ℕ) (v : Value) → WorthOfSet unrootedWorth (node r empty empty) v ↔ (v ≡ taxonUnrooted o weigh r)
   unrooted-taxon r = taxon-only r (taxonUnrooted o weigh r) (λ p e. rw e (value-path (omega arith) (omega arith) (omega arith)))
 
-  -- a clade that is a group has the sets of its members, charged with its branch
+  -- a clade that is a group has the sets of its members, below its heading
   module _ (r : ℕ) (f : Forest) (group : isGroup f ≡ true) (apart : countIn r f ≡ 0) where
-    group-rooted : (p : ℕ → Bool) → p r ≡ false → 0 < chosenIn p f → rootedWorth p (node r f empty) ≡ charge (rootedWorth p f) (branch o r)
-    group-rooted p e h =
-        rw (e, positive-true (0 + chosenIn p f) (omega arith)) (value-path (omega arith) (omega arith) (omega arith))
-
-    group-unrooted : (p : ℕ → Bool) → p r ≡ false → unrootedWorth p (node r f empty) ≡ unrootedWorth p f
-    group-unrooted p e = rw e (value-path refl (omega arith) (omega arith))
-
     unchosen : (p : ℕ → Bool) → groupsIn p (node r f empty) ≡ 0 → p r ≡ false
     unchosen p g = one-false (p r) (omega (arith, ap (λ b. one (p r && b)) group, ap one (and-true (p r))))
 
@@ -230,41 +230,36 @@ module _ (o : List ℕ) (weigh : ℕ → ℕ) where
       members-chosen : chosenIn (merged noRecord p f) f ≡ chosenIn p f
       members-chosen = chosen-agree (merged noRecord p f) p f (merged-in noRecord p f)
 
-      lift : {worth : (ℕ → Bool) → Forest → Value} {v : Value} → groupsIn p f ≡ 0 → 0 < chosenIn p f
-          → v ≡ worth (merged noRecord p f) (node r f empty) → WorthOfSet worth (node r f empty) v
-      lift g h e = record {
-        set = merged noRecord p f;
-        taxa = omega (arith, groups-agree (merged noRecord p f) p f (merged-in noRecord p f), ap (λ b. one (b && isGroup f)) outside);
-        some = omega (arith, members-chosen);
-        is = e;
-      }
-
-    pub rooted-group : (v : Value) → WorthOfSet rootedWorth (node r f empty) v ↔ Charged (WorthOfSet rootedWorth f) (branch o r) v
-    rooted-group v = (down, up)
+    -- whatever the heading adds to a worth
+    group-sets : {worth : (ℕ → Bool) → Forest → Value} → Splits worth → (h : Value)
+        → ((p : ℕ → Bool) → p r ≡ false → 0 < chosenIn p f → worth p (node r f empty) ≡ plus h (worth p f))
+        → (v : Value) → WorthOfSet worth (node r f empty) v ↔ Shifted h (WorthOfSet worth f) v
+    group-sets {worth} splits h adds v = (down, up)
       where
-        down : WorthOfSet rootedWorth (node r f empty) v → Charged (WorthOfSet rootedWorth f) (branch o r) v
+        down : WorthOfSet worth (node r f empty) v → Shifted h (WorthOfSet worth f) v
         down x =
             let e = unchosen (x .set) (x .taxa) in
-            let h : 0 < chosenIn (x .set) f = omega (arith, ap one e) in
-            (rootedWorth (x .set) f, record { set = x .set; taxa = omega arith; some = h; is = refl }, x .is ∙ group-rooted (x .set) e h)
+            let k : 0 < chosenIn (x .set) f = omega (arith, ap one e) in
+            (worth (x .set) f, record { set = x .set; taxa = omega arith; some = k; is = refl }, x .is ∙ adds (x .set) e k)
 
-        up : Charged (WorthOfSet rootedWorth f) (branch o r) v → WorthOfSet rootedWorth (node r f empty) v
+        up : Shifted h (WorthOfSet worth f) v → WorthOfSet worth (node r f empty) v
         up (w, x, e) =
             let p = x .set in
-            lift p (x .taxa) (x .some)
-            (e ∙ ap (λ w. charge w (branch o r)) (x .is ∙ sym (rooted-splits .agree _ p f (merged-in noRecord p f)))
-            ∙ sym (group-rooted (merged noRecord p f) (outside p) (omega (arith, members-chosen p))))
+            let q = merged noRecord p f in
+            let k : 0 < chosenIn q f = omega (arith, members-chosen p) in
+            record {
+              set = q;
+              taxa = omega (arith, groups-agree q p f (merged-in noRecord p f), ap (λ b. one (b && isGroup f)) (outside p));
+              some = omega arith;
+              is = e ∙ ap (plus h) (x .is ∙ sym (splits .agree q p f (merged-in noRecord p f))) ∙ sym (adds q (outside p) k);
+            }
 
-    pub unrooted-group : (v : Value) → WorthOfSet unrootedWorth (node r f empty) v ↔ WorthOfSet unrootedWorth f v
-    unrooted-group v = (down, up)
-      where
-        down : WorthOfSet unrootedWorth (node r f empty) v → WorthOfSet unrootedWorth f v
-        down x =
-            let e = unchosen (x .set) (x .taxa) in
-            record { set = x .set; taxa = omega arith; some = omega (arith, ap one e); is = x .is ∙ group-unrooted (x .set) e }
+    pub rooted-group : (v : Value) → WorthOfSet rootedWorth (node r f empty) v ↔ Shifted (headingRooted o weigh r) (WorthOfSet rootedWorth f) v
+    rooted-group =
+        group-sets rooted-splits (headingRooted o weigh r)
+        (λ p e h. rw (e, positive-true (0 + chosenIn p f) (omega arith)) (value-path (omega arith) (omega arith) (omega arith)))
 
-        up : WorthOfSet unrootedWorth f v → WorthOfSet unrootedWorth (node r f empty) v
-        up x =
-            let p = x .set in
-            lift p (x .taxa) (x .some)
-            (x .is ∙ sym (unrooted-splits .agree _ p f (merged-in noRecord p f)) ∙ sym (group-unrooted (merged noRecord p f) (outside p)))
+    pub unrooted-group : (v : Value) → WorthOfSet unrootedWorth (node r f empty) v ↔ Shifted (headingUnrooted o weigh r) (WorthOfSet unrootedWorth f) v
+    unrooted-group =
+        group-sets unrooted-splits (headingUnrooted o weigh r)
+        (λ p e h. rw (e, positive-true (0 + chosenIn p f) (omega arith)) (value-path (omega arith) (omega arith) (omega arith)))

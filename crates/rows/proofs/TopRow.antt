@@ -7,7 +7,7 @@ use mathlib.Core.Logic.{_⊎_, inl, inr}
 use native.Mathlib.Omega.{arith}
 use lib.Dec.{eqb}
 use Rattle.lists.specs.Lists.{pick, one, from}
-use Rattle.outline.specs.Outline.{size, first, price, records, isTaxon}
+use Rattle.outline.specs.Outline.{size, first, branch, price, records, isTaxon}
 use Rattle.outline.proofs.Kept.{Linked}
 use Rattle.diversity.specs.Diversity.{chosen, diversity, rooted, unrooted, cost}
 use Rattle.diversity.specs.Behind.{IsSet}
@@ -17,7 +17,7 @@ use Rattle.laws.specs.Candidate.{Value, nothingWorth, some}
 use Rattle.laws.specs.Numbers.{weight, code, worth}
 use Rattle.laws.proofs.Sums.{one-false, occurs-range, total-term}
 use Rattle.laws.proofs.Forest.{members-cases, sum-all, inside, distinct}
-use Rattle.laws.proofs.Measures.{chosenIn, groupsIn, weight-quiet, rooted-quiet, unrooted-quiet}
+use Rattle.laws.proofs.Measures.{chosenIn, groupsIn, weight-quiet, within-quiet, unrooted-quiet}
 use Rattle.laws.proofs.ByTree.{groups-none, rooted-tree, unrooted-tree, cost-tree}
 use Rattle.laws.proofs.Order.{value-path}
 use Rattle.laws.proofs.Best.{Best, best-same, best-nothing, best-either, best-unique}
@@ -63,8 +63,8 @@ module _ (o : List ℕ) where
   row-by false = across-best o (weight o)
 
   quiet-by : (b : Bool) (p : ℕ → Bool) (F : Forest) → chosenIn p F ≡ 0 → worthBy b p F ≡ nothingWorth
-  quiet-by true p F z = value-path (rooted-quiet o p F z) (weight-quiet p (price o) F z) (weight-quiet p (weight o) F z)
-  quiet-by false p F z = value-path (unrooted-quiet o p F z) (weight-quiet p (price o) F z) (weight-quiet p (weight o) F z)
+  quiet-by true p F z = value-path (within-quiet p (branch o) F z) (within-quiet p (price o) F z) (weight-quiet p (weight o) F z)
+  quiet-by false p F z = value-path (unrooted-quiet o p F z) (within-quiet p (price o) F z) (weight-quiet p (weight o) F z)
 
 module _ (o : List ℕ) (linked : Linked o) where
   worth-tree : (way : ℕ) {s : List ℕ} → IsSet o s → worth o way s ≡ worthBy o (eqb way 0) (chosen s) (tree o 1)

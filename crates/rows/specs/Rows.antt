@@ -8,7 +8,7 @@ use Rattle.lists.specs.Lists.{pick}
 use Rattle.outline.specs.Outline.{branch, price}
 use Rattle.laws.specs.Forest.{Forest, empty, node, tree, isGroup}
 use Rattle.laws.specs.Numbers.{weight}
-use Rattle.laws.specs.Candidate.{Value, nothingWorth, Cand, none, some, betterOf, joinOf, chargeOf, oneAt}
+use Rattle.laws.specs.Candidate.{Value, nothingWorth, heading, Cand, none, some, betterOf, joinOf, oneAt}
 
 -- a candidate for each page count
 abbrev pub Row : Type 0
@@ -33,10 +33,17 @@ module _ (o : List ℕ) (weigh : ℕ → ℕ) where
   abbrev pub taxonUnrooted : ℕ → Value
   taxonUnrooted r = record { diversity = 0; cost = price o r; code = weigh r }
 
+  -- a group's heading, with its branch and without
+  abbrev pub headingRooted : ℕ → Value
+  headingRooted r = heading (branch o r) (price o r)
+
+  abbrev pub headingUnrooted : ℕ → Value
+  headingUnrooted r = heading 0 (price o r)
+
   -- something in r's clade, and then what may follow: for a taxon, x is what may follow; for a group, g is something of its
-  -- members and then what may follow
+  -- members and then what may follow, which moves right by the price of its heading
   unfoldable pub cladeRow : ℕ → Bool → Row → Row → Row
-  cladeRow r taxon x g b = pick taxon (joinRow (taxonRooted r) x b) (chargeOf (g b) (branch o r))
+  cladeRow r taxon x g b = pick taxon (joinRow (taxonRooted r) x b) (joinRow (headingRooted r) g b)
 
   -- something in the forest, and then what x has
   unfoldable pub pushed : Forest → Row → Row
@@ -52,21 +59,24 @@ module _ (o : List ℕ) (weigh : ℕ → ℕ) where
 
   -- something in r's clade, and then nothing
   unfoldable pub aloneRow : ℕ → Bool → Forest → Row
-  aloneRow r taxon f b = pick taxon (oneAt (taxonRooted r) b) (chargeOf (rootedRow f b) (branch o r))
+  aloneRow r taxon f b = pick taxon (oneAt (taxonRooted r) b) (joinRow (headingRooted r) (rootedRow f) b)
 
   -- something in r's clade, and something in the rest of its chain
   unfoldable pub crossRow : ℕ → Bool → Forest → Forest → Row
   crossRow r taxon f n = cladeRow r taxon (rootedRow n) (pushed f (rootedRow n))
 
-  -- a taxon alone, unrooted
-  unfoldable pub singleRow : ℕ → Bool → Row
-  singleRow r taxon b = pick taxon (oneAt (taxonUnrooted r) b) none
+  -- something in r's clade, and nothing in the rest of its chain, unrooted: a taxon alone, or what g has of a group's members
+  unfoldable pub insideRow : ℕ → Bool → Row → Row
+  insideRow r taxon g b = pick taxon (oneAt (taxonUnrooted r) b) (joinRow (headingUnrooted r) g b)
 
   -- something in the forest, unrooted
   unfoldable pub acrossRow : Forest → Row
   acrossRow empty b = none
-  acrossRow (node r f n) b =
-      betterOf (betterOf (betterOf (singleRow r (isLeaf f) b) (acrossRow f b)) (acrossRow n b)) (crossRow r (isLeaf f) f n b)
+  acrossRow (node r f n) b = betterOf (betterOf (insideRow r (isLeaf f) (acrossRow f) b) (acrossRow n b)) (crossRow r (isLeaf f) f n b)
+
+  -- the same below groups that cost `above` together
+  unfoldable pub acrossUnder : ℕ → Forest → Row
+  acrossUnder above F = joinRow (heading 0 above) (acrossRow F)
 
 -- the table's last row: nothing, or something in the clade of record 1, by the way of counting
 unfoldable pub topRow : List ℕ → ℕ → Row

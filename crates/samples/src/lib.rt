@@ -1,3 +1,4 @@
 // What the test programs share: outlines, and the words that they print.
+pub mod headings;
 pub mod outlines;
 pub mod words;

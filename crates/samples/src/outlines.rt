@@ -32,6 +32,13 @@ pub fn put(buffer: &mut Buffer, r: usize, fields: [u32; 5])
     put_long(buffer, at + 12, fields[4]);
 }
 
+// Gives record r another price.
+pub fn put_price(buffer: &mut Buffer, r: usize, price: u32)
+    requires { ⌜ (1 ≤ r) × (r ≤ 129) ⌝ }
+{
+    put_long(buffer, 16 * (r - 1) + 8, price);
+}
+
 pub fn blank() -> Buffer {
     [0; 2064]
 }
@@ -45,9 +52,14 @@ pub fn one_record(fields: [u32; 5]) -> Buffer {
 
 // Tree A of document 01: 5 records.
 pub fn tree_a() -> Buffer {
+    tree_a_with_headings(0, 0)
+}
+
+// Tree A with a heading for its root and one for its group.
+pub fn tree_a_with_headings(root: u32, group: u32) -> Buffer {
     let mut buffer = blank();
-    put(&mut buffer, 1, [0, 2, 0, 0, 0]);
-    put(&mut buffer, 2, [5, 3, 3, 0, 0]);
+    put(&mut buffer, 1, [0, 2, 0, root, 0]);
+    put(&mut buffer, 2, [5, 3, 3, group, 0]);
     put(&mut buffer, 3, [4, 0, 4, 3, 11]);
     put(&mut buffer, 4, [0, 0, 2, 1, 12]);
     put(&mut buffer, 5, [0, 0, 5, 2, 13]);

@@ -1,5 +1,5 @@
 -- The steps of crossing a group's clade with the rest of its chain, by pushing either side over the other.
-use Prim.Native.Nat.{ℕ, _+_, _<_}
+use Prim.Native.Nat.{ℕ, _+_, _-_, _<_}
 use mathlib.Core.Path.{_≡_, refl, sym, ap, _∙_}
 use mathlib.Core.Logic.{inl, inr}
 use mathlib.Core.List.{List}
@@ -7,23 +7,24 @@ use native.Mathlib.Omega.{arith}
 use lib.ListN.{length}
 use borrow.Author.Tests.{ne-eqb, eqb-false}
 use Rattle.lists.specs.Lists.{pick}
-use Rattle.outline.specs.Outline.{next, first, branch, isTaxon}
+use Rattle.outline.specs.Outline.{next, first, branch, price, isTaxon}
 use Rattle.outline.proofs.Kept.{Kept}
-use Rattle.laws.specs.Candidate.{betterOf, chargeOf}
+use Rattle.laws.specs.Candidate.{betterOf}
 use Rattle.laws.specs.Forest.{tree}
 use Rattle.laws.specs.Numbers.{weight}
 use Rattle.laws.proofs.Order.{better-none}
 use Rattle.laws.proofs.Best.{From, from-same}
-use Rattle.rows.specs.Rows.{cladeRow, aloneRow, crossRow}
-use Rattle.rows.proofs.BestRows.{from-charge}
-use Rattle.rows.proofs.Bounds.{Small, branches, codes, rooted-small, pushed-small, branches-limit, codes-limit}
+use Rattle.rows.specs.Rows.{headingRooted, cladeRow, aloneRow, crossRow}
+use Rattle.rows.proofs.BestRows.{from-join-row}
+use Rattle.rows.proofs.Bounds.{Small, small-more, branches, codes, rooted-small, pushed-small, branches-limit, codes-limit}
 use Rattle.rows.proofs.Steps.{pushed-same, cross-step}
 use Rattle.table.specs.Cells.{cell}
-use Rattle.table.specs.Memory.{Blank, Chargeable, Charging}
-use Rattle.table.specs.Table.{start, Ready, Done, pushedFrom, rootedFrom, aloneFrom}
+use Rattle.table.specs.Memory.{Blank, Charges, Charging}
+use Rattle.table.specs.Table.{start, Ready, Done, pushedFrom, rootedFrom, aloneFrom, crossFrom}
 use Rattle.table.specs.Spread.{Crossable, Crossed}
 use Rattle.table.proofs.Places.{gap, own-inside, At, to-next, to-first, branches-here, codes-here}
-use Rattle.table.proofs.Pushing.{small-diversity}
+use Rattle.table.proofs.Pushing.{small-diversity, small-cost}
+use Rattle.table.proofs.TaxonRows.{join-row, join-same}
 
 module _ {o : List ℕ} {r to w : ℕ} {l₀ : List ℕ} (s : Crossable o r to w l₀) where
   abbrev kept : Kept o
@@ -82,23 +83,29 @@ module _ {o : List ℕ} {r to w : ℕ} {l₀ : List ℕ} (s : Crossable o r to w
         h₁ .same (0 + b) (λ p. omega (arith, s .to-above, s .to-before, gap w r f (to-first a .later p))) (λ p q. omega (arith, s .to-above))
         ∙ ap (cell l₀) (omega arith) ∙ s .base .none-row b h
 
-    pub chargeable-cross : Chargeable l₁ to to (branch o r) 0 w
-    chargeable-cross = record {
+    pub charges-cross : Charges l₁ to (branch o r) (price o r) 0 w
+    charges-cross = record {
       inside = omega (arith, s .to-before, own-inside (s .base) (s .most));
-      charged = record { inside = omega (arith, s .to-before, own-inside (s .base) (s .most)); aside = inl (omega arith) };
-      over = record { inside = omega (arith, s .to-before, own-inside (s .base) (s .most)); aside = inr (omega (arith, s .to-above)) };
+      above = s .to-above;
+      over-inside = omega (arith, s .to-before, own-inside (s .base) (s .most));
+      over-apart = inr (omega (arith, s .to-above));
       blank = none₁;
+      none-row = none₁;
       fits = λ i h.
           let small = pushed-small o (weight o) (tree o f) _ _ i (λ b k. rooted-small o (weight o) (tree o n) b) i (omega arith) in
-          rw (pushed₁ i h) (omega (arith, small-diversity small, branches-here a, branches-limit o kept r (s .most)));
+          rw (pushed₁ i (omega arith))
+          (record {
+            diversity-fits = omega (arith, small-diversity small, branches-here a, branches-limit o kept r (s .most));
+            cost-fits = omega (arith, small-cost small, s .base .narrow);
+          });
     }
 
-    pub crossed-members : {l₂ : List ℕ} → Charging to to (branch o r) 0 w l₁ l₂ → Crossed o r to w l₀ l₂
+    pub crossed-members : {l₂ : List ℕ} → Charging to (branch o r) (price o r) 0 w l₁ l₂ → Crossed o r to w l₀ l₂
     unfolding crossRow cladeRow
     crossed-members v = record {
       row = λ b h.
-          v .row b (omega arith) h ∙ ap (betterOf (chargeOf (cell l₁ (to + b)) (branch o r))) (none₁ refl b h) ∙ better-none _
-          ∙ ap (λ c. chargeOf c (branch o r)) (pushed₁ b h);
+          v .row b (omega arith) h ∙ ap (betterOf _) (none₁ refl b h) ∙ better-none _
+          ∙ join-same _ _ _ _ b (pushed₁ (b - price o r) (omega arith)) ∙ join-row (headingRooted o (weight o) r) _ b;
       same = λ k p q.
           v .same k (λ g. q (omega arith)) ∙ h₁ .same k (λ g. omega (arith, gap w r f (to-first a .later g))) (λ g. q);
     }
@@ -108,8 +115,15 @@ module _ {o : List ℕ} {r to w : ℕ} {l₀ : List ℕ} (s : Crossable o r to w
       → From (Small (branch o r + branches o (tree o f)) (codes (weight o) (tree o f))) b (aloneFrom o r f b)
   unfolding aloneRow
   alone-small b =
-      from-same (λ v (q, small, e). rw e (record { diversity-most = omega (arith, small .diversity-most); code-most = small .code-most }))
-      (from-charge (branch o r) (rooted-small o (weight o) (tree o f) b))
+      from-same (λ v (q, small, e). rw e (record { diversity-most = omega arith; code-most = omega arith }))
+      (from-join-row (headingRooted o (weight o) r) _ b (rooted-small o (weight o) (tree o f) (b - price o r)))
+
+  -- so is the crossing row
+  pub cross-small : (b : ℕ) → From (Small (branches o (tree o r)) (codes (weight o) (tree o r))) b (crossFrom o r f n b)
+  cross-small b =
+      rw (rw (s .group) at (cross-step o (kept .linked) (weight o) r (s .positive) (s .most) b))
+      (small-more _ _ (omega (arith, branches-here a)) (omega (arith, codes-group))
+      (pushed-small o (weight o) (tree o n) _ _ b (λ i k. alone-small i) b (omega arith)))
 
   pub ready-rest : Ready o n (start w r) to w l₀
   ready-rest =

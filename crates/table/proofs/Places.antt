@@ -6,11 +6,11 @@ use native.Mathlib.Omega.{arith}
 use native.Mathlib.Nat.{mul-le-mul-right}
 use lib.ListN.{length}
 use Rattle.lists.specs.Lists.{pick}
-use Rattle.outline.specs.Outline.{size, next, first, branch, isTaxon}
+use Rattle.outline.specs.Outline.{size, next, first, branch, price, isTaxon}
 use Rattle.outline.proofs.Kept.{Later}
 use Rattle.laws.specs.Forest.{tree}
 use Rattle.laws.specs.Numbers.{weight}
-use Rattle.rows.proofs.Bounds.{branches, codes, branches-step, codes-step}
+use Rattle.rows.proofs.Bounds.{branches, prices, codes, all-step, codes-step}
 use Rattle.table.specs.Cells.{cell}
 use Rattle.table.specs.Memory.{Blank}
 use Rattle.table.specs.Table.{start, Base}
@@ -61,7 +61,10 @@ module _ {o : List ℕ} {r w : ℕ} {l : List ℕ} {n f : ℕ} (a : At o r w l n
   own-above = omega (arith, gap w 0 r (a .positive))
 
   pub branches-here : branches o (tree o r) ≡ branch o r + (branches o (tree o f) + branches o (tree o n))
-  branches-here = rw (a .next-is, a .first-is) (branches-step o (a .base .kept .linked) r (a .most) (a .positive))
+  branches-here = rw (a .next-is, a .first-is) (all-step o (a .base .kept .linked) (branch o) r (a .most) (a .positive))
+
+  pub prices-here : prices o (tree o r) ≡ price o r + (prices o (tree o f) + prices o (tree o n))
+  prices-here = rw (a .next-is, a .first-is) (all-step o (a .base .kept .linked) (price o) r (a .most) (a .positive))
 
   pub codes-here : codes (weight o) (tree o r)
       ≡ pick (isTaxon o r) (weight o r) 0 + (codes (weight o) (tree o f) + codes (weight o) (tree o n))

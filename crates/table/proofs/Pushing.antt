@@ -11,16 +11,16 @@ use borrow.Author.Tests.{eq-eqb, ne-eqb}
 use Rattle.lists.specs.Lists.{pick}
 use Rattle.outline.specs.Outline.{size, first, branch, price, isTaxon}
 use Rattle.outline.proofs.Kept.{Later}
-use Rattle.laws.specs.Candidate.{Cand, betterOf, chargeOf}
+use Rattle.laws.specs.Candidate.{Cand, betterOf}
 use Rattle.laws.specs.Forest.{tree}
 use Rattle.laws.specs.Numbers.{weight}
 use Rattle.laws.proofs.Order.{better-none}
 use Rattle.laws.proofs.Best.{From, nothing, this, from-better}
-use Rattle.rows.specs.Rows.{Row, betterRow, taxonRooted, cladeRow}
+use Rattle.rows.specs.Rows.{Row, betterRow, taxonRooted, headingRooted, cladeRow}
 use Rattle.rows.proofs.Bounds.{Small, SmallRow, small-more, branches, codes, pushed-small}
 use Rattle.rows.proofs.Steps.{pushed-same, pushed-zero, pushed-step}
 use Rattle.table.specs.Cells.{cell, diversityOf, costOf, codeOf}
-use Rattle.table.specs.Memory.{rowAt, Blank, Betters, Chargeable, Charging, Bettering}
+use Rattle.table.specs.Memory.{rowAt, Blank, Betters, Charges, Charging, Bettering}
 use Rattle.table.proofs.Places.{gap, base-kept, blank-none, own-inside, At, to-next, to-first, branches-here, codes-here}
 use Rattle.table.proofs.TaxonRows.{join-row, join-same}
 use Rattle.table.specs.Table.{IsTaxon, start, Base, Ready, Done, Followed, TaxonRow, TaxonJoins, pushedFrom}
@@ -276,28 +276,38 @@ module _ {o : List ℕ} {r after to w : ℕ} {l₀ : List ℕ} (ready : Ready o 
         rest₃ : (b : ℕ) → b < w → cell l₃ (rest + b) ≡ y b
         rest₃ b h = h₃ .same (rest + b) (λ p. omega (arith, rest-before)) (λ p. rest-apart b h) ∙ rest₂ b h
 
-        pub chargeable : Chargeable l₃ to to (branch o r) rest w
-        chargeable = record {
+        base₃ : Base o w l₃
+        base₃ = base-kept base₂ k₃ (λ b h. h₃ .same b (λ p. omega (arith, rest-before, ready .to-above)) (λ p q. omega (arith, ready .to-above)))
+
+        pub charges : Charges l₃ to (branch o r) (price o r) rest w
+        charges = record {
           inside = omega (arith, ready .to-before (a .positive), own-inside (ready .base) (ready .most));
-          charged = record { inside = omega (arith, ready .to-before (a .positive), own-inside (ready .base) (ready .most)); aside = inl (omega arith) };
-          over = record {
-            inside = omega (arith, rest-inside);
-            aside =
-                ⊎-elim (λ (e : rest ≡ 0). inr (omega (arith, ready .to-above)))
-                (λ (e : rest ≡ start w r + w). inl (omega (arith, ready .to-before (a .positive)))) rest-place;
-          };
+          above = ready .to-above;
+          over-inside = omega (arith, rest-inside);
+          over-apart =
+              ⊎-elim (λ (e : rest ≡ 0). inr (omega (arith, ready .to-above)))
+              (λ (e : rest ≡ start w r + w). inl (omega (arith, ready .to-before (a .positive)))) rest-place;
           blank = λ e b h. rest₃ b h ∙ sym (h₁ .row b h) ∙ blank-none base₁ rest e b h;
+          none-row = blank-none base₃ 0;
           fits = λ i h.
               let s = pushed-small o (weight o) (tree o f) _ _ (w - 1) follow-small i (omega arith) in
-              rw (members₃ i h) (omega (arith, small-diversity s, branches-here a, ready .room .diversity-fits));
+              rw (members₃ i (omega arith))
+              (record {
+                diversity-fits = omega (arith, small-diversity s, branches-here a, ready .room .diversity-fits);
+                cost-fits = omega (arith, small-cost s, ready .base .narrow);
+              });
         }
 
-        pub done-group : {l₄ : List ℕ} → Charging to to (branch o r) rest w l₃ l₄ → Done o r after to w l₀ l₄ to
+        pub done-group : {l₄ : List ℕ} → Charging to (branch o r) (price o r) rest w l₃ l₄ → Done o r after to w l₀ l₄ to
         unfolding cladeRow
         done-group v = record {
           place = placed;
           row = λ b h.
-              v .row b (omega arith) h ∙ ap₂ betterOf (ap (λ c. chargeOf c (branch o r)) (members₃ b h)) (rest₃ b h) ∙ rw (here b, group);
+              v .row b (omega arith) h
+              ∙ ap₂ betterOf
+              (join-same _ _ _ _ b (members₃ (b - price o r) (omega arith)) ∙ join-row (headingRooted o (weight o) r) (pushedFrom o f follow) b)
+              (rest₃ b h)
+              ∙ rw (here b, group);
           same = λ k p q.
               let g = gap w r f (to-first a .later positive) in
               v .same k (λ e. q (a .positive) (omega arith)) ∙ h₃ .same k (λ e. omega (arith, p (a .positive))) (λ e. q (a .positive))

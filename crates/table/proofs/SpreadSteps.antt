@@ -9,24 +9,26 @@ use lib.Dec.{eqb}
 use lib.ListN.{length}
 use borrow.Author.Tests.{eq-eqb, ne-eqb}
 use Rattle.lists.specs.Lists.{pick}
-use Rattle.outline.specs.Outline.{size, next, first, branch, price, records, isTaxon}
+use Rattle.outline.specs.Outline.{size, next, branch, price, records, isTaxon}
 use Rattle.outline.proofs.Kept.{Kept}
-use Rattle.laws.specs.Candidate.{nothingWorth, none, some, betterOf, chargeOf, oneAt}
+use Rattle.laws.specs.Candidate.{plus, nothingWorth, heading, none, some, betterOf, joinOf, oneAt}
 use Rattle.laws.specs.Forest.{tree}
 use Rattle.laws.specs.Numbers.{weight}
 use Rattle.laws.proofs.Sums.{total-most}
 use Rattle.laws.proofs.Forest.{tree-zero, tree-step, sum-part}
-use Rattle.laws.proofs.Order.{better-none}
-use Rattle.rows.specs.Rows.{betterRow, joinRow, taxonRooted, cladeRow, rootedRow, aloneRow, crossRow, singleRow, acrossRow}
+use Rattle.laws.proofs.Order.{value-path, better-none}
+use Rattle.rows.specs.Rows.{betterRow, joinRow, taxonRooted, taxonUnrooted, headingRooted, cladeRow, rootedRow, aloneRow, acrossRow, acrossUnder}
 use Rattle.rows.proofs.Bounds.{branches, codes, rooted-small, branches-limit, codes-limit}
-use Rattle.rows.proofs.Steps.{pushed-zero, pushed-step, rooted-step, across-step, cross-step}
+use Rattle.rows.proofs.Joins.{join-none, join-at}
+use Rattle.rows.proofs.Steps.{pushed-zero, pushed-step, rooted-step, under-step, cross-under, cross-step}
 use Rattle.table.specs.Cells.{cell}
-use Rattle.table.specs.Memory.{rowAt, Chargeable, chargeOver, Charging}
+use Rattle.table.specs.Memory.{rowAt, Charges, chargeOver, Charging}
 use Rattle.table.specs.Table.{taxonWorth, start, Base, pushedFrom, rootedFrom, acrossFrom, aloneFrom, crossFrom}
 use Rattle.table.specs.Spread.{Running, recordsIn, Spreadable, Spread, TaxonSpreadable, TaxonSpread, Crossable, Crossed, Meets, Met}
-use Rattle.table.proofs.Places.{gap, base-kept, blank-none, own-inside, own-above, At, to-next, to-first, branches-here, codes-here}
-use Rattle.table.proofs.Pushing.{picked, small-diversity}
-use Rattle.table.proofs.Spreading.{least-kept, join-row-same, shuffle}
+use Rattle.table.proofs.Places.{gap, base-kept, blank-none, own-inside, own-above, At, to-next, to-first, branches-here, prices-here, codes-here}
+use Rattle.table.proofs.Pushing.{picked, small-diversity, small-cost}
+use Rattle.table.proofs.Crossing.{cross-small}
+use Rattle.table.proofs.Spreading.{least-kept, shuffle}
 use Rattle.table.proofs.TaxonRows.{join-row, join-same}
 
 -- no record
@@ -35,9 +37,10 @@ module _ (o : List ℕ) (kept : Kept o) (b : ℕ) where
   unfolding rootedRow
   rooted-zero = pushed-zero o (kept .linked) (weight o) _ b
 
-  across-zero : acrossFrom o 0 b ≡ none
-  unfolding acrossRow
-  across-zero = ap (λ F. acrossRow o (weight o) F b) (tree-zero o)
+  across-zero : (above : ℕ) → acrossFrom o above 0 b ≡ none
+  unfolding acrossUnder acrossRow joinRow
+  across-zero above =
+      ap (λ F. joinRow (heading 0 above) (acrossRow o (weight o) F) b) (tree-zero o) ∙ join-none (oneAt (heading 0 above) b)
 
 records-zero : (o : List ℕ) → recordsIn (tree o 0) ≡ 0
 records-zero o = ap recordsIn (tree-zero o)
@@ -47,18 +50,18 @@ unfolding records
 records-most o kept r u =
     omega (arith, sum-part o (kept .linked) (λ q f. 1) r u, total-most (λ q. 1) 1 1 (size o) (λ q l h. omega arith))
 
-pub spread-none : {o : List ℕ} {to w : ℕ} {l : List ℕ} → Spreadable o 0 to w l → Spread o 0 to w l l 0
-spread-none {o} {to} {w} {l} s = record {
+pub spread-none : {o : List ℕ} {above to w : ℕ} {l : List ℕ} → Spreadable o 0 above to w l → Spread o 0 above to w l l 0
+spread-none {o} {above} {to} {w} {l} s = record {
   row = λ p. absurd (omega arith);
-  top = λ b h. sym (ap (betterOf (cell l (2 * w + b))) (across-zero o (s .running .base .kept) b) ∙ better-none _);
+  top = λ b h. sym (ap (betterOf (cell l (2 * w + b))) (across-zero o (s .running .base .kept) b above) ∙ better-none _);
   same = λ k p q g. refl;
   records = sym (records-zero o);
 }
 
 -- spreading keeps the four rows before the records'
-pub running-spread : {o : List ℕ} {r to w : ℕ} {l m : List ℕ} {count : ℕ} → Spreadable o r to w l → Spread o r to w l m count → length m ≡ length l
-    → Running o w m
-running-spread {o} {r} {to} {w} {l} s h len = record {
+pub running-spread : {o : List ℕ} {r above to w : ℕ} {l m : List ℕ} {count : ℕ} → Spreadable o r above to w l
+    → Spread o r above to w l m count → length m ≡ length l → Running o w m
+running-spread {o} {r} {above} {to} {w} {l} s h len = record {
   base =
       base-kept (s .running .base) len
       (λ b k. h .same b (λ p. omega (arith, s .to-before p, s .to-above)) (λ p q. omega (arith, s .to-above)) (λ q. omega arith));
@@ -69,19 +72,20 @@ running-spread {o} {r} {to} {w} {l} s h len = record {
 }
 
 -- ---- spreading at record r
-module _ {o : List ℕ} {r to w : ℕ} {l₀ : List ℕ} (s : Spreadable o r to w l₀) {n f : ℕ} (a : At o r w l₀ n f) where
+module _ {o : List ℕ} {r above to w : ℕ} {l₀ : List ℕ} (s : Spreadable o r above to w l₀) {n f : ℕ} (a : At o r w l₀ n f) where
   records-here : recordsIn (tree o r) ≡ 1 + (recordsIn (tree o f) + recordsIn (tree o n))
   records-here = rw (a .next-is, a .first-is) (ap recordsIn (tree-step o (a .base .kept .linked) r (a .positive) (s .most)))
 
-  pub spreadable-next : Spreadable o n (start w r + w) w l₀
+  pub spreadable-next : Spreadable o n above (start w r + w) w l₀
   spreadable-next = record {
     running = s .running;
     most = to-next a .most;
     to-before = λ p. omega (arith, gap w r n (to-next a .later p));
     to-above = omega (arith, own-above a);
+    above-fits = omega (arith, prices-here a, s .above-fits);
   }
 
-  module _ {l₁ : List ℕ} {later : ℕ} (h₁ : Spread o n (start w r + w) w l₀ l₁ later) (k₁ : length l₁ ≡ length l₀) where
+  module _ {l₁ : List ℕ} {later : ℕ} (h₁ : Spread o n above (start w r + w) w l₀ l₁ later) (k₁ : length l₁ ≡ length l₀) where
     running₁ : Running o w l₁
     running₁ = running-spread spreadable-next h₁ k₁
 
@@ -104,7 +108,7 @@ module _ {o : List ℕ} {r to w : ℕ} {l₀ : List ℕ} (s : Spreadable o r to 
               let e′ : rest ≡ start w r + w = er ∙ rw (ne-eqb n 0 (λ q. omega arith)) in
               ap (λ q. cell l₁ (q + b)) e′ ∙ h₁ .row (omega arith) b h
 
-      pub taxon-spreadable : TaxonSpreadable o r rest to w l₁
+      pub taxon-spreadable : TaxonSpreadable o r rest above to w l₁
       taxon-spreadable =
           let weigh : pick (isTaxon o r) (weight o r) 0 ≡ weight o r = rw taxon in
           record {
@@ -120,30 +124,36 @@ module _ {o : List ℕ} {r to w : ℕ} {l₀ : List ℕ} (s : Spreadable o r to 
               diversity-fits = omega (arith, branches-here a, branches-limit o (a .base .kept) r (s .most));
               code-fits = omega (arith, weigh, codes-here a, codes-limit o (a .base .kept) r (s .most));
             };
+            above-most = omega (arith, s .above-fits);
             to-above = s .to-above;
             to-inside = omega (arith, s .to-before (a .positive), own-inside (a .base) (a .most));
             to-before = ⊎-elim inl (λ (e : rest ≡ start w r + w). inr (omega (arith, s .to-before (a .positive)))) (picked (eqb n 0) er);
           }
-
-      members-none : (b : ℕ) → acrossFrom o (first o r) b ≡ none
-      members-none b = ap (λ q. acrossFrom o q b) (sym (a .first-is) ∙ z) ∙ across-zero o (a .base .kept) b
 
       rooted-taxon : (b : ℕ) → rootedFrom o r b
           ≡ betterOf (joinRow (taxonRooted o (weight o) r) (betterRow (λ i. some nothingWorth) (rootedFrom o n)) b) (rootedFrom o n b)
       unfolding rootedRow cladeRow
       rooted-taxon b = rw (a .next-is) (rw taxon at (pushed-step o (a .base .kept .linked) (weight o) r (a .positive) (s .most) b (λ i. some nothingWorth)))
 
-      across-taxon : (b : ℕ) → acrossFrom o r b
-          ≡ betterOf (betterOf (oneAt (taxonWorth o r 0) b) (acrossFrom o n b)) (joinRow (taxonRooted o (weight o) r) (rootedFrom o n) b)
-      unfolding singleRow crossRow cladeRow
+      -- below the groups above, the taxon costs them too
+      alone-is : plus (heading 0 above) (taxonUnrooted o (weight o) r) ≡ taxonWorth o r 0 (above + price o r)
+      alone-is = value-path (omega arith) refl (omega arith)
+
+      pair-is : plus (heading 0 above) (taxonRooted o (weight o) r) ≡ taxonWorth o r (branch o r) (above + price o r)
+      pair-is = value-path (omega arith) refl (omega arith)
+
+      across-taxon : (b : ℕ) → acrossFrom o above r b
+          ≡ betterOf (betterOf (oneAt (taxonWorth o r 0 (above + price o r)) b) (acrossFrom o above n b))
+          (joinRow (taxonWorth o r (branch o r) (above + price o r)) (rootedFrom o n) b)
       across-taxon b =
           rw (a .next-is)
-          ((rw taxon at (across-step o (a .base .kept .linked) (weight o) r (a .positive) (s .most) b))
-          ∙ ap
-          (λ c. betterOf (betterOf c (acrossFrom o (next o r) b)) (joinRow (taxonRooted o (weight o) r) (rootedFrom o (next o r)) b))
-          (ap (betterOf (oneAt (taxonWorth o r 0) b)) (members-none b) ∙ better-none _))
+          (under-step o (a .base .kept .linked) (weight o) above r (a .positive) (s .most) b
+          ∙ ap₂ betterOf
+          (ap (λ c. betterOf c (acrossFrom o above (next o r) b)) (rw taxon (ap (λ v. oneAt v b) alone-is)))
+          (cross-under o (a .base .kept .linked) (weight o) above r (a .positive) (s .most) b taxon
+          ∙ ap (λ v. joinRow v (rootedFrom o (next o r)) b) pair-is))
 
-      pub spread-taxon-done : {l₂ : List ℕ} → TaxonSpread o r rest to w l₁ l₂ → Spread o r to w l₀ l₂ (1 + later)
+      pub spread-taxon-done : {l₂ : List ℕ} → TaxonSpread o r rest above to w l₁ l₂ → Spread o r above to w l₀ l₂ (1 + later)
       spread-taxon-done h₂ = record {
         row = λ p b h.
             h₂ .row b h
@@ -155,8 +165,8 @@ module _ {o : List ℕ} {r to w : ℕ} {l₀ : List ℕ} (s : Spreadable o r to 
             ∙ sym (rooted-taxon b);
         top = λ b h.
             h₂ .top b h
-            ∙ ap₂ betterOf (ap (λ c. betterOf c (oneAt (taxonWorth o r 0) b)) (h₁ .top b h))
-            (join-row-same _ _ (rootedFrom o n) b (rest-row (b - price o r) (omega arith)))
+            ∙ ap₂ betterOf (ap (λ c. betterOf c (oneAt (taxonWorth o r 0 (above + price o r)) b)) (h₁ .top b h))
+            (join-at _ _ (rootedFrom o n) b (rest-row (b - (above + price o r)) (omega arith)))
             ∙ shuffle _ _ _ _ ∙ ap (betterOf (cell l₀ (2 * w + b))) (sym (across-taxon b));
         same = λ k p q g. h₂ .same k (q (a .positive)) g ∙ below₁ k (omega (arith, p (a .positive))) g;
         records =
@@ -179,39 +189,45 @@ module _ {o : List ℕ} {r to w : ℕ} {l₀ : List ℕ} (s : Spreadable o r to 
           ≡ betterOf (betterOf (aloneFrom o r f b) (rootedFrom o n b)) (crossFrom o r f n b)
       rooted-group b = rw (a .next-is, a .first-is) (rw group at (rooted-step o (a .base .kept .linked) (weight o) r (a .positive) (s .most) b))
 
-      across-group : (b : ℕ) → acrossFrom o r b
-          ≡ betterOf (betterOf (acrossFrom o f b) (acrossFrom o n b)) (crossFrom o r f n b)
-      unfolding singleRow betterOf
-      across-group b = rw (a .next-is, a .first-is) (rw group at (across-step o (a .base .kept .linked) (weight o) r (a .positive) (s .most) b))
+      across-group : (b : ℕ) → acrossFrom o above r b
+          ≡ betterOf (betterOf (acrossFrom o (above + price o r) f b) (acrossFrom o above n b)) (joinRow (heading 0 above) (crossFrom o r f n) b)
+      across-group b = rw (a .next-is, a .first-is) (rw group at (under-step o (a .base .kept .linked) (weight o) above r (a .positive) (s .most) b))
 
-      -- a row of the members is charged with r's branch: it is what r's clade has alone
+      -- a row of the members is charged with r's heading: it is what r's clade has alone
       module _ {l₂ : List ℕ} {at : ℕ} (members : (b : ℕ) → b < w → cell l₂ (at + b) ≡ rootedFrom o f b) (base₂ : Base o w l₂)
-          (above : w ≤ at) (inside : 2 * (at + w) ≤ length l₂) where
-        pub chargeable-alone : Chargeable l₂ at at (branch o r) 0 w
-        chargeable-alone = record {
+          (high : w ≤ at) (inside : 2 * (at + w) ≤ length l₂) where
+        pub charges-alone : Charges l₂ at (branch o r) (price o r) 0 w
+        charges-alone = record {
           inside = inside;
-          charged = record { inside = inside; aside = inl (omega arith) };
-          over = record { inside = omega (arith, inside); aside = inr (omega (arith, above)) };
+          above = high;
+          over-inside = omega (arith, inside);
+          over-apart = inr (omega (arith, high));
           blank = blank-none base₂ 0;
+          none-row = blank-none base₂ 0;
           fits = λ i h.
-              rw (members i h)
-              (omega (arith, small-diversity (rooted-small o (weight o) (tree o f) i), branches-here a, branches-limit o (a .base .kept) r (s .most)));
+              let small = rooted-small o (weight o) (tree o f) i in
+              rw (members i (omega arith))
+              (record {
+                diversity-fits = omega (arith, small-diversity small, branches-here a, branches-limit o (a .base .kept) r (s .most));
+                cost-fits = omega (arith, small-cost small, base₂ .narrow);
+              });
         }
 
-        alone-row : (b : ℕ) → b < w → chargeOver (rowAt l₂ at) (branch o r) (rowAt l₂ 0) b ≡ aloneFrom o r f b
+        alone-row : (b : ℕ) → b < w → chargeOver (rowAt l₂ at) (branch o r) (price o r) (rowAt l₂ 0) b ≡ aloneFrom o r f b
         unfolding aloneRow
         alone-row b h =
-            ap (betterOf (chargeOf (cell l₂ (at + b)) (branch o r))) (blank-none base₂ 0 refl b h) ∙ better-none _
-            ∙ ap (λ c. chargeOf c (branch o r)) (members b h)
+            ap (betterOf _) (blank-none base₂ 0 refl b h) ∙ better-none _
+            ∙ join-same _ _ _ _ b (members (b - price o r) (omega arith)) ∙ join-row (headingRooted o (weight o) r) _ b
 
       -- the last of its chain
       module _ (last : n ≡ 0) where
-        pub spreadable-last : Spreadable o f to w l₁
+        pub spreadable-last : Spreadable o f (above + price o r) to w l₁
         spreadable-last = record {
           running = running₁;
           most = to-first a .most;
           to-before = λ p. omega (arith, first-gap, s .to-before (a .positive));
           to-above = s .to-above;
+          above-fits = omega (arith, prices-here a, s .above-fits);
         }
 
         rest-none : (b : ℕ) → rootedFrom o n b ≡ none
@@ -223,25 +239,29 @@ module _ {o : List ℕ} {r to w : ℕ} {l₀ : List ℕ} (s : Spreadable o r to 
             ∙ ap (λ q. pushedFrom o q (aloneFrom o r f) b) last
             ∙ pushed-zero o (a .base .kept .linked) (weight o) _ b
 
-        module _ {l₂ : List ℕ} {members : ℕ} (h₂ : Spread o f to w l₁ l₂ members) (k₂ : length l₂ ≡ length l₁) where
+        cross-moved : (b : ℕ) → joinRow (heading 0 above) (crossFrom o r f n) b ≡ none
+        unfolding joinRow
+        cross-moved b = ap (joinOf (oneAt (heading 0 above) b)) (cross-none (b - above)) ∙ join-none _
+
+        module _ {l₂ : List ℕ} {members : ℕ} (h₂ : Spread o f (above + price o r) to w l₁ l₂ members) (k₂ : length l₂ ≡ length l₁) where
           base₂ : Base o w l₂
           base₂ = running-spread spreadable-last h₂ k₂ .base
 
           to-inside : 2 * (to + w) ≤ length l₂
           to-inside = omega (arith, s .to-before (a .positive), own-inside (a .base) (a .most))
 
-          pub chargeable-last : Chargeable l₂ to to (branch o r) 0 w
-          chargeable-last = chargeable-alone (h₂ .row positive) base₂ (omega (arith, s .to-above)) to-inside
+          pub charges-last : Charges l₂ to (branch o r) (price o r) 0 w
+          charges-last = charges-alone (h₂ .row positive) base₂ (omega (arith, s .to-above)) to-inside
 
-          pub spread-last : {l₃ : List ℕ} → Charging to to (branch o r) 0 w l₂ l₃ → Spread o r to w l₀ l₃ (1 + members)
+          pub spread-last : {l₃ : List ℕ} → Charging to (branch o r) (price o r) 0 w l₂ l₃ → Spread o r above to w l₀ l₃ (1 + members)
           spread-last v = record {
             row = λ p b h.
                 v .row b (omega arith) h ∙ alone-row (h₂ .row positive) base₂ (omega (arith, s .to-above)) to-inside b h
                 ∙ sym (rooted-group b ∙ ap₂ betterOf (ap (betterOf _) (rest-none b) ∙ better-none _) (cross-none b) ∙ better-none _);
             top = λ b h.
                 v .same (2 * w + b) (λ q. omega (arith, s .to-above)) ∙ h₂ .top b h
-                ∙ ap (λ c. betterOf c (acrossFrom o f b)) (h₁ .top b h) ∙ sym (better-none _) ∙ shuffle _ _ _ _
-                ∙ ap (betterOf (cell l₀ (2 * w + b))) (sym (across-group b ∙ ap (betterOf _) (cross-none b)));
+                ∙ ap (λ c. betterOf c (acrossFrom o (above + price o r) f b)) (h₁ .top b h) ∙ sym (better-none _) ∙ shuffle _ _ _ _
+                ∙ ap (betterOf (cell l₀ (2 * w + b))) (sym (across-group b ∙ ap (betterOf _) (cross-moved b)));
             same = λ k p q g.
                 v .same k (λ e. q (a .positive) (omega arith)) ∙ h₂ .same k (λ e. omega (arith, first-gap, p (a .positive))) (λ e. q (a .positive)) g
                 ∙ below₁ k (omega (arith, p (a .positive))) g;
@@ -255,27 +275,28 @@ module _ {o : List ℕ} {r to w : ℕ} {l₀ : List ℕ} (s : Spreadable o r to 
         next-positive : 0 < n
         next-positive = omega arith
 
-        pub spreadable-first : Spreadable o f (start w r) w l₁
+        pub spreadable-first : Spreadable o f (above + price o r) (start w r) w l₁
         spreadable-first = record {
           running = running₁;
           most = to-first a .most;
           to-before = λ p. omega (arith, first-gap);
           to-above = omega (arith, own-above a);
+          above-fits = omega (arith, prices-here a, s .above-fits);
         }
 
-        module _ {l₂ : List ℕ} {members : ℕ} (h₂ : Spread o f (start w r) w l₁ l₂ members) (k₂ : length l₂ ≡ length l₁) where
+        module _ {l₂ : List ℕ} {members : ℕ} (h₂ : Spread o f (above + price o r) (start w r) w l₁ l₂ members) (k₂ : length l₂ ≡ length l₁) where
           running₂ : Running o w l₂
           running₂ = running-spread spreadable-first h₂ k₂
 
-          pub chargeable-first : Chargeable l₂ (start w r) (start w r) (branch o r) 0 w
-          chargeable-first = chargeable-alone (h₂ .row positive) (running₂ .base) (omega (arith, own-above a)) (omega (arith, own-inside (a .base) (a .most)))
+          pub charges-first : Charges l₂ (start w r) (branch o r) (price o r) 0 w
+          charges-first = charges-alone (h₂ .row positive) (running₂ .base) (omega (arith, own-above a)) (omega (arith, own-inside (a .base) (a .most)))
 
           rest₂ : (b : ℕ) → b < w → cell l₂ (start w r + w + b) ≡ rootedFrom o n b
           rest₂ b h =
               h₂ .same (start w r + w + b) (λ p. omega (arith, first-gap)) (λ p q. omega arith) (λ q. omega (arith, own-above a))
               ∙ h₁ .row next-positive b h
 
-          module _ {l₃ : List ℕ} (h₃ : Charging (start w r) (start w r) (branch o r) 0 w l₂ l₃) (k₃ : length l₃ ≡ length l₂) where
+          module _ {l₃ : List ℕ} (h₃ : Charging (start w r) (branch o r) (price o r) 0 w l₂ l₃) (k₃ : length l₃ ≡ length l₂) where
             alone₃ : (b : ℕ) → b < w → cell l₃ (start w r + b) ≡ aloneFrom o r f b
             alone₃ b h =
                 h₃ .row b (omega arith) h
@@ -298,28 +319,38 @@ module _ {o : List ℕ} {r to w : ℕ} {l₀ : List ℕ} (s : Spreadable o r to 
             }
 
             module _ {l₄ : List ℕ} (h₄ : Crossed o r to w l₃ l₄) (k₄ : length l₄ ≡ length l₃) where
-              pub meets : Meets l₄ (start w r) to w
+              cross₄ : (b : ℕ) → b < w → cell l₄ (to + b) ≡ crossFrom o r f n b
+              cross₄ = rw (a .next-is, a .first-is) (h₄ .row)
+
+              pub meets : Meets l₄ (start w r) to above w
               meets = record {
-                wide = s .running .base .wide;
-                to-above = s .to-above;
+                top = record {
+                  wide = s .running .base .wide;
+                  to-above = s .to-above;
+                  to-inside = omega (arith, s .to-before (a .positive), own-inside (a .base) (a .most));
+                  fits = λ i h.
+                      let small = cross-small crossable i in
+                      rw (h₄ .row i (omega arith))
+                      (record {
+                        diversity-fits = omega (arith, small-diversity small, branches-limit o (a .base .kept) r (s .most));
+                        cost-fits = omega (arith, small-cost small, a .base .narrow);
+                      });
+                };
                 to-before = s .to-before (a .positive);
                 inside = omega (arith, own-inside (a .base) (a .most));
               }
 
-              cross₄ : (b : ℕ) → b < w → cell l₄ (to + b) ≡ crossFrom o r f n b
-              cross₄ = rw (a .next-is, a .first-is) (h₄ .row)
-
               top₄ : (b : ℕ) → b < w
-                  → cell l₄ (2 * w + b) ≡ betterOf (betterOf (cell l₀ (2 * w + b)) (acrossFrom o n b)) (acrossFrom o f b)
+                  → cell l₄ (2 * w + b) ≡ betterOf (betterOf (cell l₀ (2 * w + b)) (acrossFrom o above n b)) (acrossFrom o (above + price o r) f b)
               top₄ b h =
                   h₄ .same (2 * w + b) (omega (arith, own-above a)) (λ q. omega (arith, s .to-above))
                   ∙ h₃ .same (2 * w + b) (λ q. omega (arith, own-above a))
-                  ∙ h₂ .top b h ∙ ap (λ c. betterOf c (acrossFrom o f b)) (h₁ .top b h)
+                  ∙ h₂ .top b h ∙ ap (λ c. betterOf c (acrossFrom o (above + price o r) f b)) (h₁ .top b h)
 
               own₄ : (k : ℕ) → start w r ≤ k → k < start w r + 2 * w → cell l₄ k ≡ cell l₃ k
               own₄ k p h = h₄ .same k h (λ q. omega (arith, s .to-before (a .positive)))
 
-              pub spread-more : {l₅ : List ℕ} → Met (start w r) to w l₄ l₅ → Spread o r to w l₀ l₅ (1 + members + later)
+              pub spread-more : {l₅ : List ℕ} → Met (start w r) to above w l₄ l₅ → Spread o r above to w l₀ l₅ (1 + members + later)
               spread-more h₅ = record {
                 row = λ p b h.
                     h₅ .row b h
@@ -328,7 +359,8 @@ module _ {o : List ℕ} {r to w : ℕ} {l₀ : List ℕ} (s : Spreadable o r to 
                     (cross₄ b h)
                     ∙ sym (rooted-group b);
                 top = λ b h.
-                    h₅ .top b h ∙ ap₂ betterOf (top₄ b h) (cross₄ b h) ∙ shuffle _ _ _ _ ∙ ap (betterOf (cell l₀ (2 * w + b))) (sym (across-group b));
+                    h₅ .top b h ∙ ap₂ betterOf (top₄ b h) (join-at _ _ _ b (cross₄ (b - above) (omega arith)))
+                    ∙ shuffle _ _ _ _ ∙ ap (betterOf (cell l₀ (2 * w + b))) (sym (across-group b));
                 same = λ k p q g.
                     h₅ .same k (p (a .positive)) (q (a .positive)) g ∙ h₄ .same k (omega (arith, p (a .positive))) (q (a .positive))
                     ∙ h₃ .same k (λ e. omega (arith, p (a .positive)))

@@ -13,8 +13,8 @@ use Rattle.laws.specs.Numbers.{weight}
 use Rattle.laws.proofs.Order.{better-same}
 use Rattle.laws.proofs.Best.{this}
 use Rattle.rows.specs.Rows.{rootedRow, topRow}
-use Rattle.rows.proofs.Bounds.{branches-limit, codes-limit}
-use Rattle.rows.proofs.Steps.{pushed-same}
+use Rattle.rows.proofs.Bounds.{branches-limit, prices-limit, codes-limit}
+use Rattle.rows.proofs.Steps.{pushed-same, under-none}
 use Rattle.rows.proofs.TopRow.{top-row}
 use Rattle.table.specs.Cells.{cell}
 use Rattle.table.specs.Memory.{Written, Betters, Bettering}
@@ -79,7 +79,7 @@ module _ {o : List ℕ} {w : ℕ} {l₀ : List ℕ} (s : Fillable o w l₀) wher
 
     -- unrooted
     module _ {l₃ : List ℕ} (h₃ : Written (2 * w) 0 w (λ b. some nothingWorth) l₂ l₃) (k₃ : length l₃ ≡ length l₂) where
-      pub spreadable-root : Spreadable o 1 (3 * w) w l₃
+      pub spreadable-root : Spreadable o 1 0 (3 * w) w l₃
       spreadable-root = record {
         running = record {
           base = base-kept base₂ k₃ (λ b h. h₃ .same b (λ q. omega arith));
@@ -89,12 +89,14 @@ module _ {o : List ℕ} {w : ℕ} {l₀ : List ℕ} (s : Fillable o w l₀) wher
         most = s .kept .linked .filled;
         to-before = λ p. omega arith;
         to-above = omega arith;
+        above-fits = omega (arith, prices-limit o (s .kept) 1 (s .kept .linked .filled));
       }
 
-      pub filled-unrooted : {way : ℕ} → (way ≡ 0 → ⊥) → {l₄ : List ℕ} {count : ℕ} → Spread o 1 (3 * w) w l₃ l₄ count → Filled o way w l₄
+      pub filled-unrooted : {way : ℕ} → (way ≡ 0 → ⊥) → {l₄ : List ℕ} {count : ℕ} → Spread o 1 0 (3 * w) w l₃ l₄ count → Filled o way w l₄
       unfolding topRow
       filled-unrooted {way} n h₄ = record {
         row = λ b h.
-            h₄ .top b h ∙ ap (λ c. betterOf c (acrossFrom o 1 b)) (h₃ .row b (omega arith) h)
+            h₄ .top b h ∙ ap (λ c. betterOf c (acrossFrom o 0 1 b)) (h₃ .row b (omega arith) h)
+            ∙ ap (betterOf (some nothingWorth)) (under-none o (s .kept .linked) (weight o) (tree o 1) b)
             ∙ rw (ne-eqb way 0 n) at (top-row o (s .kept .linked) way b);
       }

@@ -1,4 +1,4 @@
--- A candidate's two words: which of two is better, two joined, one charged with a branch.
+-- A candidate's two words: which of two is better, two joined, one charged with a heading.
 use Prim.Native.Nat.{ℕ, _+_, _*_, _-_, _/_, _%_, _^_, _<_, _≤_}
 use mathlib.Core.Path.{_≡_, refl, ap, _∙_}
 use mathlib.Core.Logic.{_≢_, inl, inr, ⊎-elim}
@@ -8,9 +8,9 @@ use native.Mathlib.Nat.{eq-or-lt-of-le}
 use lib.Dec.{eqb, ltb}
 use borrow.Author.Tests.{lt-ltb, le-ltb, eq-eqb, ne-eqb, eqb-true, eqb-false, ltb-true, ltb-false}
 use Rattle.lists.specs.Lists.{pick}
-use Rattle.laws.specs.Candidate.{Value, none, some, beats, betterOf, joinOf, chargeOf}
+use Rattle.laws.specs.Candidate.{Value, plus, heading, none, some, beats, betterOf, joinOf, chargeOf}
 use Rattle.laws.proofs.Order.{Beats, more, cheaper, earlier, AtLeast, value-path, beats-true, beats-false}
-use Rattle.table.specs.Cells.{unit, seen, diversityOf, costOf, codeOf, Joinable}
+use Rattle.table.specs.Cells.{unit, seen, diversityOf, costOf, codeOf, Joinable, Chargeable}
 
 -- the value of a score that isn't 0
 abbrev valueOf : ℕ → ℕ → Value
@@ -119,22 +119,28 @@ module _ (s m t n : ℕ) where
         ap (λ x. seen x (m + n)) e ∙ seen-some _ _ (q .0) ∙ ap some (value-path (q .1) (q .2) refl) ∙ rw (seen-some s m h, seen-some t n k)
 
 -- one charged
-module _ (s m b : ℕ) where
-  pub charge-none : s ≡ 0 → seen s m ≡ chargeOf (seen s m) b
-  unfolding chargeOf
+module _ (s m b p : ℕ) where
+  pub charge-none : s ≡ 0 → seen s m ≡ chargeOf (seen s m) b p
+  unfolding joinOf
   charge-none e = rw (seen-none s m e)
 
-  module _ (h : s ≡ 0 → ⊥) where
-    pub charge-bounds : diversityOf (seen s m) + b < 2 ^ 40 → s + b * unit < 2 ^ 64
-    unfolding diversityOf
-    charge-bounds l = let l′ = rw (seen-some s m h) at l in omega arith
+  module _ (h : s ≡ 0 → ⊥) (j : Chargeable (seen s m) b p) where
+    chargeable-words : Chargeable (some (valueOf s m)) b p
+    chargeable-words = rw (seen-some s m h) at j
 
-    pub charge-some : seen (s + b * unit) m ≡ chargeOf (seen s m) b
-    unfolding chargeOf
+    pub charge-bounds : (b < 2 ^ 40) × (s + b * unit < 2 ^ 64) × (p ≤ s + b * unit)
+    unfolding diversityOf costOf
+    charge-bounds =
+        let d = chargeable-words .diversity-fits in
+        let c = chargeable-words .cost-fits in
+        (omega arith, omega arith, omega arith)
+
+    pub charge-some : seen (s + b * unit - p) m ≡ chargeOf (seen s m) b p
+    unfolding joinOf costOf
     charge-some =
-        let d : (s + b * unit - 1) / unit ≡ (s - 1) / unit + b = omega arith in
-        let c : unit - 1 - (s + b * unit - 1) % unit ≡ unit - 1 - (s - 1) % unit = omega arith in
-        seen-some _ _ (λ e. omega arith) ∙ ap some (value-path d c refl) ∙ rw (seen-some s m h)
+        let c = chargeable-words .cost-fits in
+        let v : valueOf (s + b * unit - p) m ≡ plus (heading b p) (valueOf s m) = value-path (omega arith) (omega arith) (omega arith) in
+        seen-some _ _ (λ e. omega arith) ∙ ap some v ∙ rw (seen-some s m h)
 
 -- a set by its worth
 pub seen-worth : (d c m : ℕ) → c < unit → seen ((d + 1) * unit - c) m ≡ some (record { diversity = d; cost = c; code = m })

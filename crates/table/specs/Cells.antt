@@ -39,6 +39,11 @@ pub record Joinable (c d : Cand) : Type 0 where
   pub cost-fits : costOf c + costOf d < unit
   pub code-fits : codeOf c + codeOf d < 2 ^ 64
 
+-- a candidate charged with a heading keeps to its words
+pub record Chargeable (c : Cand) (branch price : ℕ) : Type 0 where
+  pub diversity-fits : branch + diversityOf c < 2 ^ 40
+  pub cost-fits : price + costOf c < unit
+
 -- the candidate at a cell, which is two numbers of a list
 unfoldable pub cell : List ℕ → ℕ → Cand
 cell l k = seen (getD l (2 * k) 0) (getD l (2 * k + 1) 0)

@@ -1,14 +1,14 @@
 -- Rows of candidates in a list of numbers, and what is written of them.
-use Prim.Native.Nat.{ℕ, _+_, _*_, _-_, _<_, _≤_, _^_}
+use Prim.Native.Nat.{ℕ, _+_, _*_, _-_, _<_, _≤_}
 use mathlib.Core.Path.{_≡_}
 use mathlib.Core.Logic.{_⊎_, _≢_}
 use mathlib.Core.List.{List}
 use lib.Dec.{leb}
 use lib.ListN.{length}
 use Rattle.lists.specs.Lists.{pick}
-use Rattle.laws.specs.Candidate.{Cand, none, betterOf, joinOf, chargeOf}
+use Rattle.laws.specs.Candidate.{heading, Cand, none, some, betterOf, joinOf}
 use Rattle.rows.specs.Rows.{Row, betterRow}
-use Rattle.table.specs.Cells.{cell, diversityOf, Joinable}
+use Rattle.table.specs.Cells.{cell, Joinable, Chargeable}
 
 -- the row that begins at a cell
 abbrev pub rowAt : List ℕ → ℕ → Row
@@ -48,28 +48,46 @@ joinFrom c price x b = pick (leb price b) (joinOf c (x (b - price))) none
 abbrev pub joinOver : Cand → ℕ → Row → Row → Row → Row
 joinOver c price x y z b = betterOf (joinFrom c price (betterRow x y) b) (z b)
 
--- x with a branch above, or else y
-abbrev pub chargeOver : Row → ℕ → Row → Row
-chargeOver x branch y b = betterOf (chargeOf (x b) branch) (y b)
+-- x below a heading, or else y
+abbrev pub chargeOver : Row → ℕ → ℕ → Row → Row
+chargeOver x branch price y b = betterOf (joinFrom (some (heading branch price)) price x b) (y b)
 
--- the three ways to write a row: the better of two, one charged with a branch or else another, and one candidate joined with the
--- better of two or else a third
+-- the ways to write a row: the better of two; one below a heading or else another, from the price of the heading on, or all of it
+-- in place; and one candidate joined with the better of two or else a third
 abbrev pub Bettering : ℕ → ℕ → ℕ → ℕ → List ℕ → List ℕ → Type 0
 Bettering to x y w l m = Written to 0 w (betterRow (rowAt l x) (rowAt l y)) l m
 
+abbrev pub ChargingFrom : ℕ → ℕ → ℕ → ℕ → ℕ → ℕ → List ℕ → List ℕ → Type 0
+ChargingFrom to x branch price y w l m = Written to price w (chargeOver (rowAt l x) branch price (rowAt l y)) l m
+
 abbrev pub Charging : ℕ → ℕ → ℕ → ℕ → ℕ → List ℕ → List ℕ → Type 0
-Charging to x branch y w l m = Written to 0 w (chargeOver (rowAt l x) branch (rowAt l y)) l m
+Charging to branch price y w l m = Written to 0 w (chargeOver (rowAt l to) branch price (rowAt l y)) l m
 
 abbrev pub Joining : ℕ → Cand → ℕ → ℕ → ℕ → ℕ → ℕ → List ℕ → List ℕ → Type 0
 Joining to c price x y z w l m = Written to price w (joinOver c price (rowAt l x) (rowAt l y) (rowAt l z)) l m
 
--- what charging the row at a asks
-pub record Chargeable (l : List ℕ) (to a branch b w : ℕ) : Type 0 where
+-- l has a row of w columns at a, which is not overtaken while the row at `to` is written from right to left
+pub record ReadsBack (l : List ℕ) (to a w : ℕ) : Type 0 where
+  pub inside : 2 * (a + w) ≤ length l
+  pub aside : (a ≤ to) ⊎ (to + w ≤ a)
+
+-- what charging the row at a from its price on asks
+pub record ChargesFrom (l : List ℕ) (to a branch price b w : ℕ) : Type 0 where
   pub inside : 2 * (to + w) ≤ length l
-  pub charged : Reads l to a w
-  pub over : Reads l to b w
+  pub moved : ReadsBack l to a w
+  pub over : ReadsBack l to b w
   pub blank : Blank l b w
-  pub fits : (i : ℕ) → i < w → diversityOf (cell l (a + i)) + branch < 2 ^ 40
+  pub fits : (i : ℕ) → i + price < w → Chargeable (cell l (a + i)) branch price
+
+-- what charging the whole row in place asks: b stands apart from it
+pub record Charges (l : List ℕ) (to branch price b w : ℕ) : Type 0 where
+  pub inside : 2 * (to + w) ≤ length l
+  pub above : w ≤ to
+  pub over-inside : 2 * (b + w) ≤ length l
+  pub over-apart : (to + w ≤ b) ⊎ (b + w ≤ to)
+  pub blank : Blank l b w
+  pub none-row : Blank l 0 w
+  pub fits : (i : ℕ) → i + price < w → Chargeable (cell l (to + i)) branch price
 
 -- what joining a candidate with the rows at x and y asks, which stand apart from the row that is written
 pub record Joins (l : List ℕ) (to : ℕ) (c : Cand) (price x y z w : ℕ) : Type 0 where

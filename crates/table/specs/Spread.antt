@@ -6,15 +6,15 @@ use mathlib.Core.Bool.{false}
 use mathlib.Core.List.{List}
 use lib.ListN.{length}
 use Rattle.outline.specs.Outline.{size, next, first, branch, price, isTaxon}
-use Rattle.laws.specs.Candidate.{nothingWorth, some, betterOf, oneAt}
+use Rattle.laws.specs.Candidate.{nothingWorth, heading, some, betterOf, oneAt}
 use Rattle.laws.specs.Forest.{Forest, sumIn, tree}
 use Rattle.laws.specs.Numbers.{weight}
 use Rattle.laws.proofs.Best.{From}
 use Rattle.rows.specs.Rows.{Row, joinRow}
-use Rattle.rows.proofs.Bounds.{Small}
-use Rattle.table.specs.Cells.{cell}
+use Rattle.rows.proofs.Bounds.{Small, prices}
+use Rattle.table.specs.Cells.{cell, Chargeable}
 use Rattle.table.specs.Memory.{rowAt, joinOver}
-use Rattle.table.specs.Table.{IsTaxon, taxonWorth, start, Base, rootedFrom, acrossFrom, aloneFrom, crossFrom}
+use Rattle.table.specs.Table.{IsTaxon, mostAbove, taxonWorth, start, Base, rootedFrom, acrossFrom, aloneFrom, crossFrom}
 
 -- the rows before the records': that of no set, that of nothing chosen, and the running optimum, which is nothing or better
 pub record Running (o : List ℕ) (w : ℕ) (l : List ℕ) : Type 0 where
@@ -31,24 +31,25 @@ pub record Bettered (w : ℕ) (x : Row) (l m : List ℕ) : Type 0 where
   pub top : (b : ℕ) → b < w → cell m (2 * w + b) ≡ betterOf (cell l (2 * w + b)) (x b)
   pub same : (k : ℕ) → (2 * w ≤ k → 3 * w ≤ k) → cell m k ≡ cell l k
 
--- the running optimum is bettered by taxon r alone, and by taxon r with something of the row at `rest`
-abbrev pub BySingle : List ℕ → ℕ → ℕ → List ℕ → List ℕ → Type 0
-BySingle o r w l m = Bettered w (oneAt (taxonWorth o r 0)) l m
+-- the running optimum is bettered by taxon r alone, and by taxon r with something of the row at `rest`, at a cost
+abbrev pub BySingle : List ℕ → ℕ → ℕ → ℕ → List ℕ → List ℕ → Type 0
+BySingle o r cost w l m = Bettered w (oneAt (taxonWorth o r 0 cost)) l m
 
-abbrev pub ByPairs : List ℕ → ℕ → ℕ → ℕ → List ℕ → List ℕ → Type 0
-ByPairs o r rest w l m = Bettered w (joinRow (taxonWorth o r (branch o r)) (rowAt l rest)) l m
+abbrev pub ByPairs : List ℕ → ℕ → ℕ → ℕ → ℕ → List ℕ → List ℕ → Type 0
+ByPairs o r rest cost w l m = Bettered w (joinRow (taxonWorth o r (branch o r) cost) (rowAt l rest)) l m
 
 -- what spreading the chain of record r to the row at `to` asks
-pub record Spreadable (o : List ℕ) (r to w : ℕ) (l : List ℕ) : Type 0 where
+pub record Spreadable (o : List ℕ) (r above to w : ℕ) (l : List ℕ) : Type 0 where
   pub running : Running o w l
   pub most : r ≤ size o
   pub to-before : 0 < r → to + w ≤ start w r
   pub to-above : 3 * w ≤ to
+  pub above-fits : above + prices o (tree o r) ≤ mostAbove
 
 -- what it leaves: the rooted row of the chain at `to`, and the running optimum bettered by what the chain has unrooted
-pub record Spread (o : List ℕ) (r to w : ℕ) (l m : List ℕ) (count : ℕ) : Type 0 where
+pub record Spread (o : List ℕ) (r above to w : ℕ) (l m : List ℕ) (count : ℕ) : Type 0 where
   pub row : 0 < r → (b : ℕ) → b < w → cell m (to + b) ≡ rootedFrom o r b
-  pub top : (b : ℕ) → b < w → cell m (2 * w + b) ≡ betterOf (cell l (2 * w + b)) (acrossFrom o r b)
+  pub top : (b : ℕ) → b < w → cell m (2 * w + b) ≡ betterOf (cell l (2 * w + b)) (acrossFrom o above r b)
   pub same : (k : ℕ) → (0 < r → k < start w r) → (0 < r → to ≤ k → to + w ≤ k) → (2 * w ≤ k → 3 * w ≤ k) → cell m k ≡ cell l k
   pub records : count ≡ recordsIn (tree o r)
 
@@ -65,19 +66,21 @@ pub record Pairable (o : List ℕ) (r rest w : ℕ) (l : List ℕ) : Type 0 wher
   pub code-fits : weight o r + most-code < 2 ^ 64
 
 -- what spreading taxon r to the row at `to` asks
-pub record TaxonSpreadable (o : List ℕ) (r rest to w : ℕ) (l : List ℕ) : Type 0 where
+pub record TaxonSpreadable (o : List ℕ) (r rest above to w : ℕ) (l : List ℕ) : Type 0 where
   pub pairs : Pairable o r rest w l
+  pub above-most : above ≤ mostAbove
   pub to-above : 3 * w ≤ to
   pub to-inside : 2 * (to + w) ≤ length l
   pub to-before : (rest ≡ 0) ⊎ (to + w ≤ rest)
 
 -- the taxon alone, which has no diversity, and the taxon with something of the rest have bettered the running optimum
-pub record TaxonSpread (o : List ℕ) (r rest to w : ℕ) (l m : List ℕ) : Type 0 where
+pub record TaxonSpread (o : List ℕ) (r rest above to w : ℕ) (l m : List ℕ) : Type 0 where
   pub row : (b : ℕ) → b < w
-      → cell m (to + b) ≡ joinOver (some (taxonWorth o r (branch o r))) (price o r) (λ i. some nothingWorth) (rowAt l rest) (rowAt l rest) b
+      → cell m (to + b) ≡ joinOver (some (taxonWorth o r (branch o r) (price o r))) (price o r) (λ i. some nothingWorth) (rowAt l rest) (rowAt l rest) b
   pub top : (b : ℕ) → b < w
       → cell m (2 * w + b)
-      ≡ betterOf (betterOf (cell l (2 * w + b)) (oneAt (taxonWorth o r 0) b)) (joinRow (taxonWorth o r (branch o r)) (rowAt l rest) b)
+      ≡ betterOf (betterOf (cell l (2 * w + b)) (oneAt (taxonWorth o r 0 (above + price o r)) b))
+      (joinRow (taxonWorth o r (branch o r) (above + price o r)) (rowAt l rest) b)
   pub same : (k : ℕ) → (to ≤ k → to + w ≤ k) → (2 * w ≤ k → 3 * w ≤ k) → cell m k ≡ cell l k
 
 -- the two rows of group r hold what its clade has alone and what the rest of its chain has
@@ -97,15 +100,25 @@ pub record Crossed (o : List ℕ) (r to w : ℕ) (l m : List ℕ) : Type 0 where
   pub row : (b : ℕ) → b < w → cell m (to + b) ≡ crossFrom o r (first o r) (next o r) b
   pub same : (k : ℕ) → k < start w r + 2 * w → (to ≤ k → to + w ≤ k) → cell m k ≡ cell l k
 
--- rows for a meeting: the running optimum, `to`, and the two at `own`
-pub record Meets (l : List ℕ) (own to w : ℕ) : Type 0 where
+-- what bettering the running optimum by the row at `to` asks, below groups that cost `above`
+pub record Tops (l : List ℕ) (to above w : ℕ) : Type 0 where
   pub wide : 0 < w
   pub to-above : 3 * w ≤ to
+  pub to-inside : 2 * (to + w) ≤ length l
+  pub fits : (i : ℕ) → i + above < w → Chargeable (cell l (to + i)) 0 above
+
+-- what it leaves: the row is moved right by `above`
+abbrev pub ByRow : ℕ → ℕ → ℕ → List ℕ → List ℕ → Type 0
+ByRow to above w l m = Bettered w (joinRow (heading 0 above) (rowAt l to)) l m
+
+-- rows for a meeting: the running optimum, `to`, and the two at `own`
+pub record Meets (l : List ℕ) (own to above w : ℕ) : Type 0 where
+  pub top : Tops l to above w
   pub to-before : to + w ≤ own
   pub inside : 2 * (own + 2 * w) ≤ length l
 
 -- the running optimum and the row at `to` bettered
-pub record Met (own to w : ℕ) (l m : List ℕ) : Type 0 where
-  pub top : (b : ℕ) → b < w → cell m (2 * w + b) ≡ betterOf (cell l (2 * w + b)) (cell l (to + b))
+pub record Met (own to above w : ℕ) (l m : List ℕ) : Type 0 where
+  pub top : (b : ℕ) → b < w → cell m (2 * w + b) ≡ betterOf (cell l (2 * w + b)) (joinRow (heading 0 above) (rowAt l to) b)
   pub row : (b : ℕ) → b < w → cell m (to + b) ≡ betterOf (betterOf (cell l (own + b)) (cell l (own + w + b))) (cell l (to + b))
   pub same : (k : ℕ) → k < own → (to ≤ k → to + w ≤ k) → (2 * w ≤ k → 3 * w ≤ k) → cell m k ≡ cell l k

@@ -8,12 +8,13 @@ use lib.Dec.{eqb}
 use lib.ListN.{length}
 use Rattle.lists.specs.Lists.{pick}
 use Rattle.outline.specs.Outline.{size, branch, price, isTaxon}
+use Rattle.outline.specs.Refusals.{mostRecords}
 use Rattle.outline.proofs.Kept.{Kept}
 use Rattle.diversity.specs.Search.{optimum}
 use Rattle.laws.specs.Candidate.{Value, none, some, betterOf}
 use Rattle.laws.specs.Forest.{Forest, tree}
 use Rattle.laws.specs.Numbers.{weight, worth}
-use Rattle.rows.specs.Rows.{Row, betterRow, joinRow, pushed, rootedRow, acrossRow, aloneRow, crossRow}
+use Rattle.rows.specs.Rows.{Row, betterRow, joinRow, pushed, rootedRow, acrossUnder, aloneRow, crossRow}
 use Rattle.rows.proofs.Bounds.{SmallRow, branches, codes}
 use Rattle.table.specs.Cells.{unit, cell}
 use Rattle.table.specs.Memory.{rowAt, Written, Joins, joinOver}
@@ -25,33 +26,38 @@ pub record IsTaxon (o : List ℕ) (r : ℕ) : Type 0 where
   pub high : r ≤ size o
   pub taxon : isTaxon o r ≡ true
 
--- what taxon r alone is worth, at the diversity that it has
-abbrev pub taxonWorth : List ℕ → ℕ → ℕ → Value
-taxonWorth o r d = record { diversity = d; cost = price o r; code = weight o r }
+-- what taxon r alone is worth, at the diversity and the cost that it has
+abbrev pub taxonWorth : List ℕ → ℕ → ℕ → ℕ → Value
+taxonWorth o r d c = record { diversity = d; cost = c; code = weight o r }
+
+-- all prices together
+abbrev pub mostAbove : ℕ
+mostAbove = mostRecords * 65535
 
 -- what making a row of taxon r asks and leaves: joined with the better of x and y, or else y
 abbrev pub TaxonJoins : List ℕ → ℕ → ℕ → ℕ → ℕ → ℕ → List ℕ → Type 0
-TaxonJoins o r x y to w l = Joins l to (some (taxonWorth o r (branch o r))) (price o r) x y y w
+TaxonJoins o r x y to w l = Joins l to (some (taxonWorth o r (branch o r) (price o r))) (price o r) x y y w
 
 abbrev pub TaxonRow : List ℕ → ℕ → ℕ → ℕ → ℕ → ℕ → List ℕ → List ℕ → Type 0
-TaxonRow o r x y to w l m = Written to 0 w (joinOver (some (taxonWorth o r (branch o r))) (price o r) (rowAt l x) (rowAt l y) (rowAt l y)) l m
+TaxonRow o r x y to w l m = Written to 0 w (joinOver (some (taxonWorth o r (branch o r) (price o r))) (price o r) (rowAt l x) (rowAt l y) (rowAt l y)) l m
 
--- what bettering a row by taxon r, at the diversity d and joined with x, asks and leaves
-abbrev pub ByTaxonJoins : List ℕ → ℕ → ℕ → ℕ → ℕ → ℕ → List ℕ → Type 0
-ByTaxonJoins o r d x to w l = Joins l to (some (taxonWorth o r d)) (price o r) x 0 to w
+-- what bettering a row by taxon r, at the diversity d and the cost c and joined with x, asks and leaves
+abbrev pub ByTaxonJoins : List ℕ → ℕ → ℕ → ℕ → ℕ → ℕ → ℕ → List ℕ → Type 0
+ByTaxonJoins o r d c x to w l = Joins l to (some (taxonWorth o r d c)) c x 0 to w
 
-abbrev pub ByTaxon : List ℕ → ℕ → ℕ → ℕ → ℕ → ℕ → List ℕ → List ℕ → Type 0
-ByTaxon o r d x to w l m = Written to 0 w (betterRow (joinRow (taxonWorth o r d) (rowAt l x)) (rowAt l to)) l m
+abbrev pub ByTaxon : List ℕ → ℕ → ℕ → ℕ → ℕ → ℕ → ℕ → List ℕ → List ℕ → Type 0
+ByTaxon o r d c x to w l m = Written to 0 w (betterRow (joinRow (taxonWorth o r d c) (rowAt l x)) (rowAt l to)) l m
 
--- the rows of the chain that begins at record r: what is pushed through it, something in it rooted, and unrooted
+-- the rows of the chain that begins at record r: what is pushed through it, something in it rooted, and unrooted below
+-- groups that cost `above`
 abbrev pub pushedFrom : List ℕ → ℕ → Row → Row
 pushedFrom o r = pushed o (weight o) (tree o r)
 
 abbrev pub rootedFrom : List ℕ → ℕ → Row
 rootedFrom o r = rootedRow o (weight o) (tree o r)
 
-abbrev pub acrossFrom : List ℕ → ℕ → Row
-acrossFrom o r = acrossRow o (weight o) (tree o r)
+abbrev pub acrossFrom : List ℕ → ℕ → ℕ → Row
+acrossFrom o above r = acrossUnder o (weight o) above (tree o r)
 
 -- of a group r, whose members begin at f and the rest of whose chain at n: its clade alone, and its clade with the rest
 abbrev pub aloneFrom : List ℕ → ℕ → ℕ → Row

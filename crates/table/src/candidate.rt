@@ -1,8 +1,8 @@
 // A candidate: a set of taxa and what it is worth, or none.
 ghost use mathlib.Core.Path.{_≡_};
-ghost use Prim.Native.Nat.{_+_, _<_, _^_};
+ghost use Prim.Native.Nat.{_<_, _^_};
 ghost use Rattle.laws.specs.Candidate.{none, some, betterOf, joinOf, chargeOf};
-ghost use Rattle.table.specs.Cells.{unit, view, diversityOf, costOf, Joinable};
+ghost use Rattle.table.specs.Cells.{unit, view, diversityOf, costOf, Joinable, Chargeable};
 
 // A score takes a diversity times UNIT, less the cost. Costs are below UNIT, so that scores compare by diversity first and then
 // by cost.
@@ -67,16 +67,16 @@ impl Candidate {
         }
     }
 
-    // The set with a branch above it.
-    pub fn charged(self, branch: u64) -> Self
-        requires { ⌜ diversityOf (view self) + branch < 2 ^ 40 ⌝ }
-        ensures { λ c. ⌜ view c ≡ chargeOf (view self) branch ⌝ }
+    // The set with a heading above it: a branch and a price.
+    pub fn charged(self, branch: u64, price: u64) -> Self
+        requires { ⌜ Chargeable (view self) branch price ⌝ }
+        ensures { λ c. ⌜ view c ≡ chargeOf (view self) branch price ⌝ }
     {
         if self.score == 0 {
             return self;
         }
         Self {
-            score: self.score + branch * UNIT,
+            score: self.score + branch * UNIT - price,
             set: self.set,
         }
     }

@@ -1,10 +1,10 @@
 // Rows of candidates in lent memory: one loop over the columns each.
 ghost use mathlib.Core.Path.{_≡_};
-ghost use Prim.Native.Nat.{_+_, _*_, _<_, _≤_};
+ghost use Prim.Native.Nat.{_+_, _*_, _<_, _≤_, min};
 ghost use lib.ListN.{length};
 ghost use Rattle.laws.specs.Candidate.{none};
 ghost use Rattle.table.specs.Cells.{view, cell};
-ghost use Rattle.table.specs.Memory.{Put, Written, Betters, Bettering, Chargeable, Charging, Joins, Joining};
+ghost use Rattle.table.specs.Memory.{Put, Written, Betters, Bettering, ChargesFrom, ChargingFrom, Charges, Charging, Joins, Joining};
 use super::candidate::Candidate;
 
 // The candidate at a cell.
@@ -67,18 +67,52 @@ pub fn better_rows(work: &mut [u64], to: usize, x: usize, y: usize, width: usize
     }
 }
 
-// Makes each column of a row the better of one row's, charged with a branch, and another's.
-pub fn charge_row(work: &mut [u64], to: usize, x: usize, branch: u64, y: usize, width: usize)
-    requires { ⌜ Chargeable (now work) to x branch y width ⌝ }
-    ensures { λ _. ⌜ Charging to x branch y width (now (work .entry)) (now (work .exit)) ⌝ }
+// Makes each column from the price on the better of two: one row's, moved right by the price and charged with a heading, and
+// another's. From the last column to the first, so that the row that is written may be the one that is moved.
+pub fn charge_from(
+    work: &mut [u64],
+    to: usize,
+    x: usize,
+    branch: u64,
+    price: usize,
+    y: usize,
+    width: usize,
+)
+    requires { ⌜ ChargesFrom (now work) to x branch price y width ⌝ }
+    ensures { λ _. ⌜ ChargingFrom to x branch price y width (now (work .entry)) (now (work .exit)) ⌝ }
 {
-    let mut b = 0;
-    while b < width {
-        let c = read(work, x + b);
-        let d = column(work, y, b);
-        put(work, to + b, c.charged(branch).better(d));
-        b += 1;
+    let mut b = width;
+    while price < b {
+        b -= 1;
+        let moved = read(work, x + (b - price));
+        let other = column(work, y, b);
+        let charged = moved.charged(branch, price as u64);
+        put(work, to + b, charged.better(other));
     }
+}
+
+// The lesser of two numbers.
+pub fn least(a: usize, b: usize) -> usize
+    ensures { λ n. ⌜ n ≡ min a b ⌝ }
+{
+    if a < b {
+        return a;
+    }
+    b
+}
+
+// Moves a row right by the price and charges it with a heading, in place; each column then is the better of that and another
+// row's. Free headings have a call of their own, so that the compiler makes a loop for them that moves nothing.
+pub fn charge_row(work: &mut [u64], to: usize, branch: u64, price: usize, y: usize, width: usize)
+    requires { ⌜ Charges (now work) to branch price y width ⌝ }
+    ensures { λ _. ⌜ Charging to branch price y width (now (work .entry)) (now (work .exit)) ⌝ }
+{
+    if price == 0 {
+        charge_from(work, to, to, branch, 0, y, width);
+        return;
+    }
+    charge_from(work, to, to, branch, price, y, width);
+    better_rows(work, to, y, 0, least(price, width));
 }
 
 // Makes each column from the price on the better of two: the candidate, joined with the better of x and y for what the price

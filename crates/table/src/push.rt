@@ -7,6 +7,7 @@ use super::taxa::taxon_row;
 use outline::fields::branch_of;
 use outline::fields::first_of;
 use outline::fields::next_of;
+use outline::fields::price_of;
 
 // What may follow a clade, the better of the rows at `after` and `rest`: gives the cell where it stands.
 fn follow_row(work: &mut [u64], to: usize, after: usize, rest: usize, width: usize) -> usize
@@ -40,6 +41,7 @@ pub fn push(o: &[u8], r: usize, after: usize, to: usize, width: usize, work: &mu
     let follow = follow_row(work, own, after, rest, width);
     push(o, f, follow, to, width, work);
     let branch = branch_of(o, r) as u64;
-    charge_row(work, to, to, branch, rest, width);
+    let price = price_of(o, r) as usize;
+    charge_row(work, to, branch, price, rest, width);
     to
 }

@@ -3,8 +3,9 @@ ghost use mathlib.Core.Path.{_≡_};
 ghost use Rattle.lists.specs.Lists.{pick};
 ghost use lib.Dec.{eqb};
 ghost use Rattle.table.specs.Table.{IsTaxon};
-ghost use Rattle.table.specs.Spread.{Running, Pairable, Spreadable, Spread, BySingle, ByPairs, TaxonSpreadable, TaxonSpread, Crossable, Crossed, Meets, Met};
+ghost use Rattle.table.specs.Spread.{Running, Pairable, Spreadable, Spread, BySingle, ByPairs, TaxonSpreadable, TaxonSpread, Crossable, Crossed, Tops, ByRow, Meets, Met};
 use super::memory::better_rows;
+use super::memory::charge_from;
 use super::memory::charge_row;
 use super::push::push;
 use super::taxa::better_by_taxon;
@@ -14,33 +15,45 @@ use outline::fields::first_of;
 use outline::fields::next_of;
 use outline::fields::price_of;
 
-// Betters the running optimum by taxon r alone. It has no diversity, so that it is better than nothing only if it is free.
-fn better_by_single(o: &[u8], r: usize, width: usize, work: &mut [u64])
+// Betters the running optimum by taxon r alone, at that cost. It has no diversity, so that it is better than nothing only if it
+// is free.
+fn better_by_single(o: &[u8], r: usize, cost: usize, width: usize, work: &mut [u64])
     requires { ⌜ Running (now o) width (now work) × IsTaxon (now o) r ⌝ }
-    ensures { λ _. ⌜ BySingle (now (o .entry)) r width (now (work .entry)) (now (work .exit)) ⌝ }
+    ensures { λ _. ⌜ BySingle (now (o .entry)) r cost width (now (work .entry)) (now (work .exit)) ⌝ }
 {
-    if price_of(o, r) == 0 {
-        better_by_taxon(o, r, 0, width, 2 * width, width, work);
+    if cost == 0 {
+        better_by_taxon(o, r, 0, cost, width, 2 * width, width, work);
     }
 }
 
-// Betters the running optimum by taxon r with something in the rest of its chain.
-fn better_by_pairs(o: &[u8], r: usize, rest: usize, width: usize, work: &mut [u64])
+// Betters the running optimum by taxon r, at that cost, with something in the rest of its chain.
+fn better_by_pairs(o: &[u8], r: usize, rest: usize, cost: usize, width: usize, work: &mut [u64])
     requires { ⌜ Pairable (now o) r rest width (now work) ⌝ }
-    ensures { λ _. ⌜ ByPairs (now (o .entry)) r rest width (now (work .entry)) (now (work .exit)) ⌝ }
+    ensures { λ _. ⌜ ByPairs (now (o .entry)) r rest cost width (now (work .entry)) (now (work .exit)) ⌝ }
 {
     if rest != 0 {
-        better_by_taxon(o, r, branch_of(o, r) as u64, rest, 2 * width, width, work);
+        let branch = branch_of(o, r) as u64;
+        better_by_taxon(o, r, branch, cost, rest, 2 * width, width, work);
     }
 }
 
-// Taxon r, with the rest of its chain at `rest`: makes its rooted row, and betters the running optimum.
-fn spread_taxon(o: &[u8], r: usize, rest: usize, to: usize, width: usize, work: &mut [u64])
-    requires { ⌜ TaxonSpreadable (now o) r rest to width (now work) ⌝ }
-    ensures { λ _. ⌜ TaxonSpread (now (o .entry)) r rest to width (now (work .entry)) (now (work .exit)) ⌝ }
+// Taxon r, with the rest of its chain at `rest`, below groups that cost `above` together: makes its rooted row, and betters the
+// running optimum by what it costs with them.
+fn spread_taxon(
+    o: &[u8],
+    r: usize,
+    rest: usize,
+    above: usize,
+    to: usize,
+    width: usize,
+    work: &mut [u64],
+)
+    requires { ⌜ TaxonSpreadable (now o) r rest above to width (now work) ⌝ }
+    ensures { λ _. ⌜ TaxonSpread (now (o .entry)) r rest above to width (now (work .entry)) (now (work .exit)) ⌝ }
 {
-    better_by_single(o, r, width, work);
-    better_by_pairs(o, r, rest, width, work);
+    let cost = above + price_of(o, r) as usize;
+    better_by_single(o, r, cost, width, work);
+    better_by_pairs(o, r, rest, cost, width, work);
     taxon_row(o, r, width, rest, to, width, work);
 }
 
@@ -52,18 +65,33 @@ fn cross(o: &[u8], r: usize, by_members: bool, to: usize, width: usize, work: &m
     let own = 2 * ((r + 1) * width);
     if by_members {
         push(o, first_of(o, r), own + width, to, width, work);
-        charge_row(work, to, to, branch_of(o, r) as u64, 0, width);
+        let branch = branch_of(o, r) as u64;
+        let price = price_of(o, r) as usize;
+        charge_row(work, to, branch, price, 0, width);
         return;
     }
     push(o, next_of(o, r), own, to, width, work);
 }
 
-// Betters the running optimum by the crossing row at `to`, and the crossing row by the two at `own`.
-fn meet(work: &mut [u64], own: usize, to: usize, width: usize)
-    requires { ⌜ Meets (now work) own to width ⌝ }
-    ensures { λ _. ⌜ Met own to width (now (work .entry)) (now (work .exit)) ⌝ }
+// Betters the running optimum by the row at `to`, moved right by what the groups above it cost together.
+fn better_top(work: &mut [u64], to: usize, above: usize, width: usize)
+    requires { ⌜ Tops (now work) to above width ⌝ }
+    ensures { λ _. ⌜ ByRow to above width (now (work .entry)) (now (work .exit)) ⌝ }
 {
-    better_rows(work, 2 * width, 2 * width, to, width);
+    if above == 0 {
+        better_rows(work, 2 * width, 2 * width, to, width);
+    } else {
+        charge_from(work, 2 * width, to, 0, above, 2 * width, width);
+    }
+}
+
+// Betters the running optimum by the crossing row at `to`, below groups that cost `above`, and the crossing row by the two at
+// `own`.
+fn meet(work: &mut [u64], own: usize, to: usize, above: usize, width: usize)
+    requires { ⌜ Meets (now work) own to above width ⌝ }
+    ensures { λ _. ⌜ Met own to above width (now (work .entry)) (now (work .exit)) ⌝ }
+{
+    better_top(work, to, above, width);
     better_rows(work, own, own, own + width, width);
     better_rows(work, to, own, to, width);
 }
@@ -78,32 +106,33 @@ fn rest_at(n: usize, at: usize) -> usize
     at
 }
 
-// Makes the rooted row of the chain of record r at `to`, and betters the running optimum by every set in the chain, unrooted.
-// Gives the number of records in the chain.
-pub fn spread(o: &[u8], r: usize, to: usize, width: usize, work: &mut [u64]) -> usize
-    requires { ⌜ Spreadable (now o) r to width (now work) ⌝ }
-    ensures { λ count. ⌜ Spread (now (o .entry)) r to width (now (work .entry)) (now (work .exit)) count ⌝ }
+// Makes the rooted row of the chain of record r at `to`, and betters the running optimum by every set in the chain, unrooted,
+// below groups that cost `above` together. Gives the number of records in the chain.
+pub fn spread(o: &[u8], r: usize, above: usize, to: usize, width: usize, work: &mut [u64]) -> usize
+    requires { ⌜ Spreadable (now o) r above to width (now work) ⌝ }
+    ensures { λ count. ⌜ Spread (now (o .entry)) r above to width (now (work .entry)) (now (work .exit)) count ⌝ }
 {
     if r == 0 {
         return 0;
     }
     let own = 2 * ((r + 1) * width);
     let n = next_of(o, r);
-    let later = spread(o, n, own + width, width, work);
+    let later = spread(o, n, above, own + width, width, work);
     let f = first_of(o, r);
     if f == 0 {
-        spread_taxon(o, r, rest_at(n, own + width), to, width, work);
+        spread_taxon(o, r, rest_at(n, own + width), above, to, width, work);
         return 1 + later;
     }
     let branch = branch_of(o, r) as u64;
+    let price = price_of(o, r) as usize;
     if n == 0 {
-        let members = spread(o, f, to, width, work);
-        charge_row(work, to, to, branch, 0, width);
+        let members = spread(o, f, above + price, to, width, work);
+        charge_row(work, to, branch, price, 0, width);
         return 1 + members;
     }
-    let members = spread(o, f, own, width, work);
-    charge_row(work, own, own, branch, 0, width);
+    let members = spread(o, f, above + price, own, width, work);
+    charge_row(work, own, branch, price, 0, width);
     cross(o, r, members < later, to, width, work);
-    meet(work, own, to, width);
+    meet(work, own, to, above, width);
     1 + members + later
 }

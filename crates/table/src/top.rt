@@ -25,7 +25,7 @@ pub fn fill(o: &[u8], way: u32, width: usize, work: &mut [u64])
         return;
     }
     fill_row(work, 2 * width, Candidate::some(0, 0, 0), width);
-    spread(o, 1, 3 * width, width, work);
+    spread(o, 1, 0, 3 * width, width, work);
 }
 
 // Column b of the top row.

@@ -27,7 +27,7 @@ impl Case {
     }
 }
 
-fn group(next: u16, first: u16, length: u32) -> Record {
+pub(crate) fn group(next: u16, first: u16, length: u32) -> Record {
     Record {
         next,
         first,
@@ -36,7 +36,7 @@ fn group(next: u16, first: u16, length: u32) -> Record {
     }
 }
 
-fn taxon(next: u16, length: u32, price: u32, plate: u32) -> Record {
+pub(crate) fn taxon(next: u16, length: u32, price: u32, plate: u32) -> Record {
     Record {
         next,
         first: 0,
@@ -77,7 +77,7 @@ fn tree_d() -> Vec<Record> {
     ]
 }
 
-fn case(
+pub(crate) fn case(
     name: &'static str,
     (records, count, way): (Vec<Record>, u32, u32),
     [diversity, cost, spare]: [u32; 3],
@@ -143,7 +143,7 @@ pub fn curve_of_g(way: u32) -> Vec<[u32; 2]> {
         .collect()
 }
 
-/// A call at one of case F's limits and the refusal stated for it, number 0 where it passes.
+/// A call at a limit and the refusal stated for it, number 0 where it passes.
 pub struct Limit {
     pub outline: Vec<u8>,
     pub count: u32,
@@ -151,6 +151,7 @@ pub struct Limit {
     pub place: u32,
 }
 
+/// Case F.
 pub fn limits() -> Vec<Limit> {
     let limit = |(outline, count, number, place)| Limit {
         outline,

@@ -1,7 +1,11 @@
 //! Calls with faults: outlines damaged in their records, bytes or size, and numbers and lengths outside their limits.
 
+use std::fmt;
+
 use crate::call::Call;
-use crate::outline::{bytes, taxa, Record, RECORD_BYTES};
+use crate::expect::Expected;
+use crate::headings::{self, Tally};
+use crate::outline::{bytes, groups, taxa, Record, RECORD_BYTES};
 use crate::random::Random;
 use crate::shapes;
 
@@ -27,6 +31,53 @@ pub fn damaged_call(rng: &mut Random) -> Call {
     call
 }
 
+/// What damaged calls came to.
+#[derive(Default)]
+pub struct Outcomes {
+    /// How often each refusal was given, and at 0 how often none.
+    numbers: [u64; 10],
+    /// Refusals 5 at a group with a price out of range.
+    group_prices: u64,
+    /// Refusals 5 at a group with a plate.
+    group_plates: u64,
+    pub tally: Tally,
+}
+
+impl Outcomes {
+    pub fn add(&mut self, records: &[Record], expected: &Expected) {
+        let [number, place, ..] = expected.answer;
+        self.numbers[number as usize] += 1;
+        self.tally.add(records);
+        self.tally.add_set(records, expected);
+        if number == 5 {
+            let record = records[place as usize - 1];
+            self.group_prices += u64::from(!record.is_taxon() && record.price > 65_535);
+            self.group_plates += u64::from(!record.is_taxon() && record.plate > 0);
+        }
+    }
+
+    /// How often each refusal was given, and refusal 5 for each field of a group that has a range of its own.
+    pub fn refusals(&self) -> Vec<(String, u64)> {
+        let mut refusals: Vec<(String, u64)> = (1..10)
+            .map(|number| (format!("refusal {number}"), self.numbers[number]))
+            .collect();
+        refusals.push(("refusal 5 by a group's price".into(), self.group_prices));
+        refusals.push(("refusal 5 by a group's plate".into(), self.group_plates));
+        refusals
+    }
+}
+
+impl fmt::Display for Outcomes {
+    fn fmt(&self, f: &mut fmt::Formatter) -> fmt::Result {
+        let [accepted, refused @ ..] = &self.numbers;
+        let (prices, plates) = (self.group_prices, self.group_plates);
+        write!(
+            f,
+            "accepted {accepted}, refusals 1 to 9: {refused:?}; 5 by a group's price {prices}, by its plate {plates}"
+        )
+    }
+}
+
 fn random_count(rng: &mut Random) -> u32 {
     match rng.below(24) {
         0 | 1 => rng.pick(&[4_097, 4_098, 5_000, 65_535, 65_536, 1 << 31, u32::MAX]),
@@ -40,6 +91,7 @@ fn random_count(rng: &mut Random) -> u32 {
 pub fn damaged_outline(rng: &mut Random) -> Vec<u8> {
     let mut records = any_size(rng);
     shapes::fill_randomly(&mut records, 40, rng);
+    headings::fill_at_times(&mut records, 40, rng);
     for _ in 0..rng.pick(&[0, 0, 1, 1, 1, 2, 3]) {
         damage_record(&mut records, rng);
     }
@@ -82,7 +134,7 @@ pub(crate) fn any_size(rng: &mut Random) -> Vec<Record> {
 fn damage_record(records: &mut [Record], rng: &mut Random) {
     let at = rng.index(records.len());
     let other = rng.index(records.len());
-    match rng.below(12) {
+    match rng.below(13) {
         0 => records[at].length = rng.pick(&[0, 1_000_000, 1_000_001, 1 << 24, u32::MAX]),
         1 => records[at].price = rng.pick(&[0, 1, 65_535, 65_536, u32::MAX]),
         2 => records[at].plate = rng.pick(&[0, 1, u32::MAX]),
@@ -96,6 +148,7 @@ fn damage_record(records: &mut [Record], rng: &mut Random) {
             records[other].next = next;
         }
         9 => records.swap(at, other),
+        10 => damage_group(records, rng),
         _ => repeat_plate(records, rng),
     }
 }
@@ -116,6 +169,20 @@ fn odd_link(at: usize, records: usize, rng: &mut Random) -> u16 {
         any,
         any + 256,
     ])
+}
+
+/// A heading's price at the limit or above it, or a plate, which no group has.
+fn damage_group(records: &mut [Record], rng: &mut Random) {
+    let groups = groups(records);
+    if groups.is_empty() {
+        return;
+    }
+    let group = &mut records[rng.pick(&groups)];
+    if rng.one_in(3) {
+        group.plate = rng.pick(&[1, 256, 1 << 16, 1 << 31, u32::MAX]);
+    } else {
+        group.price = rng.pick(&[65_535, 65_536, 65_537, 1 << 24, 1 << 31, u32::MAX]);
+    }
 }
 
 fn repeat_plate(records: &mut [Record], rng: &mut Random) {
@@ -146,4 +213,74 @@ fn damage_size(outline: &mut Vec<u8>, rng: &mut Random) {
     let resized = rng.pick(&[0, 1, 15, 17, 31, size - 1, size + 1, size + 15]);
     let whole = rng.pick(&[size - RECORD_BYTES, size + RECORD_BYTES]);
     outline.resize(if rng.one_in(4) { whole } else { resized }, filler);
+}
+
+#[cfg(test)]
+mod tests {
+    use super::*;
+    use crate::cases::tree_a;
+    use crate::outline::records;
+    use crate::rules::{self, Refusal};
+
+    #[test]
+    fn a_damaged_group_is_refused_unless_its_price_is_at_the_limit() {
+        let rng = &mut Random::new(1);
+        let (mut at_limit, mut prices, mut plates) = (0, 0, 0);
+        for _ in 0..500 {
+            let mut records = tree_a();
+            damage_group(&mut records, rng);
+            let at = usize::from(records[1] != tree_a()[1]);
+            let group = records[at];
+            let place = at as u32 + 1;
+            let refusal = Refusal { number: 5, place };
+            let fits = group.price == 65_535;
+            at_limit += u32::from(fits);
+            prices += u32::from(group.price > 65_535);
+            plates += u32::from(group.plate > 0);
+            let expected = (!fits).then_some(refusal);
+            assert_eq!(rules::check(&bytes(&records)), expected, "{records:?}");
+        }
+        assert!(at_limit > 20 && prices > 100 && plates > 100);
+        let mut lone = [tree_a()[4]];
+        damage_group(&mut lone, rng);
+        assert_eq!(lone, [tree_a()[4]]);
+    }
+
+    #[test]
+    fn outcomes_tell_a_groups_price_from_its_plate() {
+        let mut outcomes = Outcomes::default();
+        let mut add = |alter: fn(&mut [Record])| {
+            let mut records = tree_a();
+            alter(&mut records);
+            let refusal = rules::check(&bytes(&records)).expect("a refusal");
+            outcomes.add(&records, &Expected::refused(refusal));
+        };
+        add(|r| r[1].price = 65_536);
+        add(|r| r[0].price = u32::MAX);
+        add(|r| r[1].plate = 1);
+        add(|r| r[2].price = 65_536);
+        add(|r| r[1].length = 1_000_001);
+        add(|r| r[4].next = 1);
+        let times: Vec<u64> = outcomes
+            .refusals()
+            .iter()
+            .map(|(_, times)| *times)
+            .collect();
+        assert_eq!(times, [0, 0, 0, 0, 5, 1, 0, 0, 0, 2, 1]);
+        assert_eq!((outcomes.tally.with, outcomes.tally.without), (2, 4));
+        assert_eq!(
+            outcomes.to_string(),
+            "accepted 0, refusals 1 to 9: [0, 0, 0, 0, 5, 1, 0, 0, 0]; 5 by a group's price 2, by its plate 1"
+        );
+    }
+
+    #[test]
+    fn damaged_outlines_keep_headings() {
+        let rng = &mut Random::new(2);
+        let mut tally = Tally::default();
+        for _ in 0..1_000 {
+            tally.add(&records(&damaged_outline(rng)));
+        }
+        assert!(tally.with > 500 && tally.without > 250, "{tally:?}");
+    }
 }

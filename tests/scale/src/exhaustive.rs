@@ -1,4 +1,4 @@
-//! The exhaustive search: every subset of the taxa is tried for every column, as document 01 says.
+//! The exhaustive search: every subset of the taxa is tried for every column, as document 01 says, at document 02's cost (§2).
 
 use crate::outline::{self, Record, ROOTED};
 
@@ -42,12 +42,32 @@ pub fn subsets(taxa: usize) -> Vec<u64> {
 pub fn search(records: &[Record], way: u32, count: u32, order: &[u64]) -> Solution {
     let taxa = outline::taxa(records);
     let clades = clades(records, &taxa);
+    let cost = |set| taxa_cost(records, &taxa, set) + headings_cost(records, &clades, set);
+    search_by(cost, records, way, count, order)
+}
+
+/// The same at document 01's cost, by which headings take no space.
+pub fn search_by_document_01(records: &[Record], way: u32, count: u32, order: &[u64]) -> Solution {
+    let taxa = outline::taxa(records);
+    let cost = |set| taxa_cost(records, &taxa, set);
+    search_by(cost, records, way, count, order)
+}
+
+fn search_by(
+    cost: impl Fn(u64) -> u32,
+    records: &[Record],
+    way: u32,
+    count: u32,
+    order: &[u64],
+) -> Solution {
+    let taxa = outline::taxa(records);
+    let clades = clades(records, &taxa);
     let subsets: Vec<Subset> = order
         .iter()
         .map(|&set| Subset {
             set,
             diversity: diversity(records, &clades, way, set),
-            cost: cost(records, &taxa, set),
+            cost: cost(set),
         })
         .collect();
     let best: Vec<Subset> = (0..=count).map(|b| best_for(b, &subsets)).collect();
@@ -99,10 +119,21 @@ fn diversity(records: &[Record], clades: &[u64], way: u32, set: u64) -> u32 {
         .sum()
 }
 
-fn cost(records: &[Record], taxa: &[usize], set: u64) -> u32 {
+/// The prices of the chosen taxa.
+fn taxa_cost(records: &[Record], taxa: &[usize], set: u64) -> u32 {
     (0..taxa.len())
         .filter(|k| set >> k & 1 == 1)
         .map(|k| records[taxa[k]].price)
+        .sum()
+}
+
+/// The price of every group that has a chosen taxon below it, once, whatever the way.
+fn headings_cost(records: &[Record], clades: &[u64], set: u64) -> u32 {
+    records
+        .iter()
+        .zip(clades)
+        .filter(|(record, &clade)| !record.is_taxon() && set & clade != 0)
+        .map(|(group, _)| group.price)
         .sum()
 }
 
@@ -120,12 +151,15 @@ pub fn spare(columns: &[[u32; 2]]) -> u32 {
 mod tests {
     use super::*;
     use crate::cases;
+    use crate::heading_cases;
+    use crate::headings;
+    use crate::outline::UNROOTED;
     use crate::random::Random;
     use crate::shapes;
 
     #[test]
-    fn gives_the_cases_of_document_01() {
-        for case in cases::starred() {
+    fn gives_the_stated_cases() {
+        for case in cases::starred().into_iter().chain(heading_cases::all()) {
             let order = subsets(outline::taxa(&case.records).len());
             let solution = search(&case.records, case.way, case.count, &order);
             let last = *solution.columns.last().unwrap();
@@ -144,6 +178,51 @@ mod tests {
     }
 
     #[test]
+    fn a_heading_is_paid_once_in_either_way() {
+        let records = heading_cases::tree_a_with(1, 2);
+        let columns = |way| search(&records, way, 9, &subsets(3)).columns;
+        let rooted = [
+            [0, 0],
+            [0, 0],
+            [0, 0],
+            [5, 3],
+            [5, 3],
+            [5, 3],
+            [10, 6],
+            [10, 6],
+            [12, 8],
+            [14, 9],
+        ];
+        let mut unrooted = rooted;
+        unrooted[..6].fill([0, 0]);
+        assert_eq!(columns(ROOTED), rooted);
+        assert_eq!(columns(UNROOTED), unrooted);
+    }
+
+    #[test]
+    fn document_01_gives_the_same_where_no_group_has_a_price() {
+        let rng = &mut Random::new(2);
+        let (mut other, mut same) = (0, 0);
+        for _ in 0..600 {
+            let taxa = 1 + rng.index(7);
+            let mut records = shapes::random_outline(taxa, 20, rng);
+            let (count, way) = (rng.up_to(20), rng.up_to(1));
+            shapes::fill_randomly(&mut records, count, rng);
+            headings::fill_at_times(&mut records, count, rng);
+            let order = subsets(taxa);
+            let by_01 = search_by_document_01(&records, way, count, &order);
+            let agrees = by_01 == search(&records, way, count, &order);
+            if headings::has_any(&records) {
+                other += u32::from(!agrees);
+            } else {
+                same += 1;
+                assert!(agrees, "{records:?}");
+            }
+        }
+        assert!(other > 100 && same > 100, "{other}, {same}");
+    }
+
+    #[test]
     fn order_of_subsets_does_not_matter_and_spare_is_count_less_cost() {
         let rng = &mut Random::new(1);
         for _ in 0..300 {
@@ -151,6 +230,7 @@ mod tests {
             let mut records = shapes::random_outline(taxa, 20, rng);
             let count = rng.up_to(20);
             shapes::fill_randomly(&mut records, count, rng);
+            headings::fill_at_times(&mut records, count, rng);
             let way = rng.up_to(1);
             let mut order = subsets(taxa);
             let solution = search(&records, way, count, &order);

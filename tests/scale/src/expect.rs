@@ -1,4 +1,4 @@
-//! What document 01 says a choosing call gives, worked out without the library.
+//! What documents 01 and 02 say a choosing call gives, worked out without the library.
 
 use crate::call::Call;
 use crate::exhaustive::{self, spare, Solution};
@@ -43,9 +43,13 @@ impl Expected {
     }
 }
 
-/// Judges the call and, if it passes, has the selection worked out.
-fn judged(call: &Call, solve: impl FnOnce(&[Record]) -> Solution) -> Expected {
-    match rules::choose(call) {
+/// The refusal or, if there is none, the selection that is worked out.
+fn judged(
+    refusal: Option<Refusal>,
+    call: &Call,
+    solve: impl FnOnce(&[Record]) -> Solution,
+) -> Expected {
+    match refusal {
         Some(refusal) => Expected::refused(refusal),
         None => Expected::selection(solve(&outline::records(&call.outline))),
     }
@@ -53,7 +57,7 @@ fn judged(call: &Call, solve: impl FnOnce(&[Record]) -> Solution) -> Expected {
 
 /// By the exhaustive search, every other time in a mixed order of the subsets.
 pub fn by_exhaustive_search(call: &Call, rng: &mut Random) -> Expected {
-    judged(call, |records| {
+    judged(rules::choose(call), call, |records| {
         let mut order = exhaustive::subsets(outline::taxa(records).len());
         if rng.one_in(2) {
             rng.shuffle(&mut order);
@@ -62,8 +66,18 @@ pub fn by_exhaustive_search(call: &Call, rng: &mut Random) -> Expected {
     })
 }
 
+/// By document 01 alone, which still holds where all headings are 0.
+pub fn by_document_01(call: &Call) -> Expected {
+    judged(rules::choose_by_document_01(call), call, |records| {
+        let order = exhaustive::subsets(outline::taxa(records).len());
+        exhaustive::search_by_document_01(records, call.way, call.count, &order)
+    })
+}
+
 pub fn by_table(call: &Call) -> Expected {
-    judged(call, |records| table::solve(records, call.way, call.count))
+    judged(rules::choose(call), call, |records| {
+        table::solve(records, call.way, call.count)
+    })
 }
 
 /// By the exhaustive search where it takes few steps, otherwise by the table.

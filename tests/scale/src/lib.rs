@@ -7,6 +7,8 @@ pub mod damage;
 pub mod exhaustive;
 pub mod expect;
 pub mod frame;
+pub mod heading_cases;
+pub mod headings;
 pub mod library;
 pub mod mangle;
 pub mod newick;

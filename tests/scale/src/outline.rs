@@ -59,6 +59,13 @@ pub fn taxa(records: &[Record]) -> Vec<usize> {
         .collect()
 }
 
+/// Positions, from 0, of the groups in record order.
+pub fn groups(records: &[Record]) -> Vec<usize> {
+    (0..records.len())
+        .filter(|&position| !records[position].is_taxon())
+        .collect()
+}
+
 /// Positions of the members of the record at `position`, in the order of their chain.
 pub fn members(records: &[Record], position: usize) -> Vec<usize> {
     let mut members = Vec::new();
@@ -115,5 +122,7 @@ mod tests {
         assert!(!is_preorder(&interleaved));
         assert_eq!(members(&interleaved, 0), [1, 2]);
         assert_eq!(members(&interleaved, 1), [3]);
+        assert_eq!(groups(&interleaved), [0, 1]);
+        assert_eq!(taxa(&interleaved), [2, 3]);
     }
 }

@@ -1,6 +1,7 @@
 //! The counts of everything compared, and the printing of what differed.
 
 use crate::compare::Comparison;
+use crate::headings::Tally;
 
 /// The comparing stops after so many differing calls.
 const MOST_DIFFERENCES: u64 = 10;
@@ -69,6 +70,27 @@ impl Report {
         if times < least {
             println!("too few: {what} occurred {times} times, at least {least} wanted");
             self.shortfalls += 1;
+        }
+    }
+
+    /// Prints how many outlines have headings. At least half are to have some, a quarter none, and some sets are to pay for one.
+    pub fn headings(&mut self, run: &str, tally: Tally) {
+        let Tally {
+            with,
+            without,
+            paid,
+        } = tally;
+        println!(
+            "   {run}: {with} with headings, {without} without; {paid} sets pay for a heading"
+        );
+        let outlines = with + without;
+        let wanted = [
+            ("an outline with headings", with, outlines.div_ceil(2)),
+            ("an outline without", without, outlines.div_ceil(4)),
+            ("a set that pays for a heading", paid, with / 20),
+        ];
+        for (what, times, least) in wanted {
+            self.require(&format!("{what}, {run}"), times, least);
         }
     }
 
@@ -182,5 +204,28 @@ mod tests {
         assert!(report.passed());
         report.require("refusal 3", 99, 100);
         assert!(!report.passed());
+    }
+
+    #[test]
+    fn too_few_headings_fail() {
+        for (with, without, paid, enough) in [
+            (50, 50, 2, true),
+            (75, 25, 3, true),
+            (49, 51, 50, false),
+            (76, 24, 50, false),
+            (50, 50, 1, false),
+            (0, 100, 0, false),
+        ] {
+            let mut report = Report::default();
+            report.headings(
+                "a run",
+                Tally {
+                    with,
+                    without,
+                    paid,
+                },
+            );
+            assert_eq!(report.passed(), enough, "{with}, {without}, {paid}");
+        }
     }
 }

@@ -1,4 +1,4 @@
-//! Document 01's table of refusals, judged row by row, and its finder.
+//! Document 01's table of refusals, judged row by row, and its finder; a group's price is document 02's (§2).
 
 use crate::call::{needed, Call};
 use crate::outline::{self, Record, RECORD_BYTES};
@@ -12,12 +12,21 @@ pub struct Refusal {
 
 /// The first of refusals 1 to 9 that holds.
 pub fn choose(call: &Call) -> Option<Refusal> {
+    choose_by(fields_fit, call)
+}
+
+/// The same by document 01 alone, where a group has no price.
+pub fn choose_by_document_01(call: &Call) -> Option<Refusal> {
+    choose_by(fields_fit_document_01, call)
+}
+
+fn choose_by(fit: fn(&Record) -> bool, call: &Call) -> Option<Refusal> {
     let records = outline::records(&call.outline);
     unknown_way(call.way)
         .or_else(|| partial_record(&call.outline))
         .or_else(|| too_many_records(&records))
         .or_else(|| count_too_large(call.count))
-        .or_else(|| content(&records))
+        .or_else(|| content_by(fit, &records))
         .or_else(|| buffer_too_short(call, records.len()))
 }
 
@@ -44,7 +53,11 @@ pub fn find(outline: &[u8], plate: u32) -> u32 {
 }
 
 pub(crate) fn content(records: &[Record]) -> Option<Refusal> {
-    field_out_of_range(records)
+    content_by(fields_fit, records)
+}
+
+fn content_by(fit: fn(&Record) -> bool, records: &[Record]) -> Option<Refusal> {
+    field_out_of_range(fit, records)
         .or_else(|| bad_link(records))
         .or_else(|| too_many_taxa(records))
         .or_else(|| duplicate_plate(records))
@@ -87,16 +100,26 @@ fn count_too_large(count: u32) -> Option<Refusal> {
     without_place(4, count > 4_096)
 }
 
-fn field_out_of_range(records: &[Record]) -> Option<Refusal> {
-    at_lowest(5, records, |records, number| {
-        let record = records[number - 1];
-        let fits = if record.is_taxon() {
-            record.price <= 65_535 && record.plate >= 1
-        } else {
-            record.price == 0 && record.plate == 0
-        };
-        record.length > 1_000_000 || !fits
-    })
+fn field_out_of_range(fit: fn(&Record) -> bool, records: &[Record]) -> Option<Refusal> {
+    at_lowest(5, records, |records, number| !fit(&records[number - 1]))
+}
+
+fn fields_fit(record: &Record) -> bool {
+    let plate_fits = if record.is_taxon() {
+        record.plate >= 1
+    } else {
+        record.plate == 0
+    };
+    record.length <= 1_000_000 && record.price <= 65_535 && plate_fits
+}
+
+fn fields_fit_document_01(record: &Record) -> bool {
+    let fit = if record.is_taxon() {
+        record.price <= 65_535 && record.plate >= 1
+    } else {
+        record.price == 0 && record.plate == 0
+    };
+    record.length <= 1_000_000 && fit
 }
 
 fn bad_link(records: &[Record]) -> Option<Refusal> {
@@ -148,7 +171,11 @@ fn buffer_too_short(call: &Call, records: usize) -> Option<Refusal> {
 mod tests {
     use super::*;
     use crate::cases::{limits, tree_a};
+    use crate::damage;
+    use crate::heading_cases;
+    use crate::headings::has_any;
     use crate::outline::bytes;
+    use crate::random::Random;
 
     fn refusal(number: u32, place: u32) -> Option<Refusal> {
         Some(Refusal { number, place })
@@ -173,8 +200,8 @@ mod tests {
     }
 
     #[test]
-    fn gives_what_document_01_states_at_the_limits() {
-        for limit in limits() {
+    fn gives_what_is_stated_at_the_limits() {
+        for limit in limits().into_iter().chain(heading_cases::limits()) {
             let [marks, curve, work] = needed(limit.outline.len() / RECORD_BYTES, limit.count);
             let call = Call {
                 outline: limit.outline,
@@ -202,7 +229,7 @@ mod tests {
         assert_eq!(choose(&faulty), refusal(8, 4));
         faulty.outline[0] = 2;
         assert_eq!(choose(&faulty), refusal(6, 1));
-        faulty.outline[24] = 1;
+        faulty.outline[26] = 1;
         assert_eq!(choose(&faulty), refusal(5, 2));
         faulty.count = 4_097;
         assert_eq!(choose(&faulty), refusal(4, 0));
@@ -233,9 +260,30 @@ mod tests {
         assert_eq!(checked(|r| r[2].price = 65_536), refusal(5, 3));
         assert_eq!(checked(|r| r[3].plate = 0), refusal(5, 4));
         assert_eq!(checked(|r| r[3].plate = u32::MAX), None);
-        assert_eq!(checked(|r| r[1].price = 1), refusal(5, 2));
+        assert_eq!(checked(|r| r[1].price = 1), None);
+        assert_eq!(checked(|r| r[1].price = 65_535), None);
+        assert_eq!(checked(|r| r[1].price = 65_536), refusal(5, 2));
+        assert_eq!(checked(|r| r[0].price = u32::MAX), refusal(5, 1));
         assert_eq!(checked(|r| r[0].plate = 1), refusal(5, 1));
         assert_eq!(checked(|r| r[0].length = 1_000_001), refusal(5, 1));
+    }
+
+    #[test]
+    fn document_01_refuses_headings_and_else_the_same() {
+        let mut priced = call();
+        priced.outline[24] = 1;
+        assert_eq!(choose(&priced), None);
+        assert_eq!(choose_by_document_01(&priced), refusal(5, 2));
+        let rng = &mut Random::new(1);
+        let mut without = 0;
+        for _ in 0..5_000 {
+            let call = damage::damaged_call(rng);
+            if !has_any(&outline::records(&call.outline)) {
+                assert_eq!(choose_by_document_01(&call), choose(&call), "{call:?}");
+                without += 1;
+            }
+        }
+        assert!(without > 1_000);
     }
 
     #[test]

@@ -3,9 +3,11 @@
 use crate::call::Call;
 use crate::cases;
 use crate::compare;
-use crate::damage;
+use crate::damage::{self, Outcomes};
 use crate::exhaustive::{self, Solution};
 use crate::expect::{self, Expected};
+use crate::heading_cases;
+use crate::headings::{self, Tally};
 use crate::library;
 use crate::outline::{self, Record, ROOTED, UNROOTED};
 use crate::random::Random;
@@ -44,7 +46,8 @@ impl Runner {
         self.larger(outlines / 25, outlines / 500)?;
         self.sound_texts(outlines)?;
         self.faulty_texts(2 * outlines)?;
-        self.stated_texts()
+        self.stated_texts()?;
+        self.heading_cases()
     }
 
     /// Starts a run with numbers that do not depend on the runs before it.
@@ -95,7 +98,7 @@ impl Runner {
         Ok(())
     }
 
-    /// A case's answer and marks are as document 01 states them.
+    /// A case's answer and marks are as they are stated.
     fn stated(&mut self, case: &cases::Case, columns: Vec<[u32; 2]>) -> Result<(), Stop> {
         let outline = outline::bytes(&case.records);
         let call = Call::roomy(outline, case.count, case.way, &mut self.rng);
@@ -108,17 +111,36 @@ impl Runner {
 
     fn cases(&mut self) -> Result<(), Stop> {
         self.start('b');
-        for case in cases::starred() {
+        self.stated_cases(&cases::starred())?;
+        self.stated_limits(&cases::limits())?;
+        self.report.line("b. cases A1 to F");
+        Ok(())
+    }
+
+    fn heading_cases(&mut self) -> Result<(), Stop> {
+        self.start('j');
+        self.stated_cases(&heading_cases::all())?;
+        self.stated_limits(&heading_cases::limits())?;
+        self.report
+            .line("j. our cases with headings, worked by hand");
+        Ok(())
+    }
+
+    fn stated_cases(&mut self, cases: &[cases::Case]) -> Result<(), Stop> {
+        for case in cases {
             let order = exhaustive::subsets(outline::taxa(&case.records).len());
             let found = exhaustive::search(&case.records, case.way, case.count, &order);
-            self.stated(&case, found.columns)?;
+            self.stated(case, found.columns)?;
         }
-        for limit in cases::limits() {
+        Ok(())
+    }
+
+    fn stated_limits(&mut self, limits: &[cases::Limit]) -> Result<(), Stop> {
+        for limit in limits {
             for way in WAYS {
-                self.limit(&limit, way)?;
+                self.limit(limit, way)?;
             }
         }
-        self.report.line("b. cases A1 to F");
         Ok(())
     }
 
@@ -140,52 +162,65 @@ impl Runner {
     fn small(&mut self, outlines: u64) -> Result<(), Stop> {
         self.start('c');
         let mut interleaved = 0;
+        let mut tally = Tally::default();
         for _ in 0..outlines {
             let (records, count) = small_outline(&mut self.rng);
             interleaved += u64::from(!outline::is_preorder(&records));
-            let outline = outline::bytes(&records);
-            self.check(&outline)?;
+            tally.add(&records);
+            self.check(&outline::bytes(&records))?;
             for way in WAYS {
-                let mut call = Call::roomy(outline.clone(), count, way, &mut self.rng);
-                let expected = expect::by_exhaustive_search(&call, &mut self.rng);
-                self.choose(&call, &expected)?;
-                if self.rng.one_in(8) {
-                    call.shorten(&mut self.rng);
-                    let refused = expect::by_exhaustive_search(&call, &mut self.rng);
-                    self.choose(&call, &refused)?;
-                }
+                let expected = self.against_search(&records, count, way)?;
+                tally.add_set(&records, &expected);
             }
         }
-        self.report
-            .line(&format!("c. {outlines} small outlines ({interleaved} interleaved) against the exhaustive search"));
+        self.report.line(&format!(
+            "c. {outlines} small outlines ({interleaved} interleaved) against the exhaustive search, and by document 01 alone without headings"
+        ));
         self.report
             .require("an interleaved outline", interleaved, outlines / 3);
+        self.report.headings("small outlines", tally);
         Ok(())
+    }
+
+    /// Outlines without headings are to give what they gave by document 01. At times a buffer is made short.
+    fn against_search(
+        &mut self,
+        records: &[Record],
+        count: u32,
+        way: u32,
+    ) -> Result<Expected, Stop> {
+        let mut call = Call::roomy(outline::bytes(records), count, way, &mut self.rng);
+        let expected = expect::by_exhaustive_search(&call, &mut self.rng);
+        self.choose(&call, &expected)?;
+        if !headings::has_any(records) {
+            self.choose(&call, &expect::by_document_01(&call))?;
+        }
+        if self.rng.one_in(8) {
+            call.shorten(&mut self.rng);
+            let refused = expect::by_exhaustive_search(&call, &mut self.rng);
+            self.choose(&call, &refused)?;
+        }
+        Ok(expected)
     }
 
     fn damaged(&mut self, calls: u64) -> Result<(), Stop> {
         self.start('d');
-        let mut numbers = [0; 10];
+        let mut outcomes = Outcomes::default();
         for _ in 0..calls {
             let call = damage::damaged_call(&mut self.rng);
             let expected = expect::by_size(&call, &mut self.rng);
-            numbers[expected.answer[0] as usize] += 1;
+            outcomes.add(&outline::records(&call.outline), &expected);
             self.choose(&call, &expected)?;
             self.check(&call.outline)?;
             let plate = some_plate(&call.outline, &mut self.rng);
             self.find(&call.outline, plate)?;
         }
         self.report.line(&format!("d. {calls} damaged calls"));
-        println!(
-            "   accepted {}, refusals 1 to 9: {:?}",
-            numbers[0],
-            &numbers[1..]
-        );
-        for (number, &times) in numbers.iter().enumerate().skip(1) {
-            let least = calls / 200;
-            self.report
-                .require(&format!("refusal {number}"), times, least);
+        println!("   {outcomes}");
+        for (refusal, times) in outcomes.refusals() {
+            self.report.require(&refusal, times, calls / 200);
         }
+        self.report.headings("damaged calls", outcomes.tally);
         Ok(())
     }
 
@@ -216,28 +251,36 @@ impl Runner {
 
     fn larger(&mut self, outlines: u64, full: u64) -> Result<(), Stop> {
         self.start('f');
+        let [mut larger_tally, mut full_tally] = [Tally::default(); 2];
         for _ in 0..outlines {
-            let mut records = larger_shape(&mut self.rng);
-            let most = self.rng.pick(&[60, 300, 1_000]);
-            let count = self.rng.up_to(most);
-            shapes::fill_randomly(&mut records, count, &mut self.rng);
-            self.against_table(&records, count)?;
+            let (records, count) = larger_outline(&mut self.rng);
+            self.against_table(&records, count, &mut larger_tally)?;
         }
         for turn in 0..full {
             let records = full_outline(turn, &mut self.rng);
-            self.against_table(&records, 4_096)?;
+            self.against_table(&records, 4_096, &mut full_tally)?;
         }
         self.report.line(&format!(
             "f. {outlines} larger outlines and {full} of 64 taxa with page count 4096 against the table"
         ));
+        self.report.headings("larger outlines", larger_tally);
+        self.report.headings("outlines of 64 taxa", full_tally);
         Ok(())
     }
 
-    fn against_table(&mut self, records: &[Record], count: u32) -> Result<(), Stop> {
+    fn against_table(
+        &mut self,
+        records: &[Record],
+        count: u32,
+        tally: &mut Tally,
+    ) -> Result<(), Stop> {
+        tally.add(records);
         let outline = outline::bytes(records);
         for way in WAYS {
             let call = Call::roomy(outline.clone(), count, way, &mut self.rng);
-            self.choose(&call, &expect::by_table(&call))?;
+            let expected = expect::by_table(&call);
+            tally.add_set(records, &expected);
+            self.choose(&call, &expected)?;
         }
         Ok(())
     }
@@ -254,6 +297,7 @@ fn small_outline(rng: &mut Random) -> (Vec<Record>, u32) {
         _ => rng.up_to(70),
     };
     shapes::fill_randomly(&mut records, count, rng);
+    headings::fill_at_times(&mut records, count, rng);
     (records, count)
 }
 
@@ -279,12 +323,28 @@ fn full_outline(turn: u64, rng: &mut Random) -> Vec<Record> {
     };
     // Prices up to 127 make the page count tight and every cost possible.
     let dense = |rng: &mut Random| rng.up_to(127);
-    match turn / 6 % 4 {
+    let kind = turn / 6 % 4;
+    match kind {
         0 => shapes::fill(&mut records, rng, |rng| rng.up_to(1_000_000), dense),
         1 => shapes::fill(&mut records, rng, |rng| rng.up_to(2), dense),
         _ => shapes::fill_randomly(&mut records, 4_096, rng),
     }
+    // Three of five, so that each shape and each kind has headings in some turns and none in others.
+    match turn % 5 {
+        0..3 if kind < 2 => headings::fill(&mut records, rng, |rng| 1 + rng.up_to(126)),
+        0..3 => headings::fill_randomly(&mut records, 4_096, rng),
+        _ => {}
+    }
     records
+}
+
+fn larger_outline(rng: &mut Random) -> (Vec<Record>, u32) {
+    let mut records = larger_shape(rng);
+    let most = rng.pick(&[60, 300, 1_000]);
+    let count = rng.up_to(most);
+    shapes::fill_randomly(&mut records, count, rng);
+    headings::fill_at_times(&mut records, count, rng);
+    (records, count)
 }
 
 fn larger_shape(rng: &mut Random) -> Vec<Record> {
@@ -296,5 +356,39 @@ fn larger_shape(rng: &mut Random) -> Vec<Record> {
         3 => shapes::star(taxa),
         4 | 5 => shapes::random_tree(taxa, rng),
         _ => shapes::random_outline(taxa, 127, rng),
+    }
+}
+
+#[cfg(test)]
+mod tests {
+    use super::*;
+
+    #[test]
+    fn full_outlines_of_every_shape_and_kind_have_headings_in_some_turns_only() {
+        let rng = &mut Random::new(1);
+        let mut tallies = [Tally::default(); 24];
+        for turn in 0..120 {
+            let records = full_outline(turn, rng);
+            assert_eq!(outline::taxa(&records).len(), 64);
+            assert_eq!(rules::check(&outline::bytes(&records)), None);
+            tallies[turn as usize % 24].add(&records);
+        }
+        for tally in tallies {
+            assert_eq!((tally.with, tally.without), (3, 2));
+        }
+    }
+
+    #[test]
+    fn other_outlines_have_headings_at_times() {
+        let rng = &mut Random::new(2);
+        for random in [small_outline, larger_outline] {
+            let mut tally = Tally::default();
+            for _ in 0..1_000 {
+                let (records, _) = random(rng);
+                assert_eq!(rules::check(&outline::bytes(&records)), None);
+                tally.add(&records);
+            }
+            assert!(tally.with > 500 && tally.without > 250, "{tally:?}");
+        }
     }
 }

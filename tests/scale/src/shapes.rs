@@ -1,6 +1,7 @@
 //! Outlines of given and of random shapes, and the lengths, prices and plates to fill them with.
 //!
-//! A shape has lengths and prices 0 and its taxa's plates are 1, 2, 3 and so on; `fill` sets lengths and prices.
+//! A shape has lengths and prices 0 and its taxa's plates are 1, 2, 3 and so on; `fill` sets lengths and the taxa's
+//! prices, `headings::fill` the groups'.
 
 use std::collections::BTreeSet;
 

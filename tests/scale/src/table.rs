@@ -1,6 +1,7 @@
 //! The table of Pardi and Goldman over the costs that occur: each group's members are joined one by one over all pairs of their
-//! costs, O(N B^2) at worst.
+//! costs, O(N B^2) at worst. A group's price moves all its costs (document 02, §2).
 
+use std::iter::repeat_n;
 use std::mem::take;
 
 use crate::exhaustive::Solution;
@@ -31,17 +32,17 @@ struct Clade {
 }
 
 impl Clade {
-    fn taxon(record: &Record, bit: u64, way: u32, count: usize) -> Clade {
-        let mut clade = Clade::default();
-        let price = record.price as usize;
-        if price <= count {
-            clade.rooted = vec![0; price + 1];
-            clade.rooted[price] = u128::from(bit);
-            if way == UNROOTED {
-                clade.unrooted = clade.rooted.clone();
-            }
+    /// A taxon before its price and its branch.
+    fn taxon(bit: u64, way: u32) -> Clade {
+        let alone = vec![u128::from(bit)];
+        Clade {
+            unrooted: if way == UNROOTED {
+                alone.clone()
+            } else {
+                Row::new()
+            },
+            rooted: alone,
         }
-        clade
     }
 
     fn join(&mut self, member: &Clade, way: u32, count: usize) {
@@ -54,10 +55,26 @@ impl Clade {
         }
     }
 
-    fn charge(&mut self, length: u32) {
+    /// Adds the branch of the clade's own record.
+    fn lengthen(&mut self, length: u32) {
         for cell in self.rooted.iter_mut().filter(|cell| **cell != 0) {
             *cell += u128::from(length) << DIVERSITY_SHIFT;
         }
+    }
+
+    /// Adds the price of the clade's own record: every nonempty set inside pays it once, also with nothing chosen elsewhere.
+    fn charge(&mut self, price: u32, count: usize) {
+        for row in [&mut self.rooted, &mut self.unrooted] {
+            move_right(row, price as usize, count);
+        }
+    }
+}
+
+/// Sets that the page count has no room for are dropped.
+fn move_right(row: &mut Row, price: usize, count: usize) {
+    row.truncate((count + 1).saturating_sub(price));
+    if !row.is_empty() {
+        row.splice(..0, repeat_n(0, price));
     }
 }
 
@@ -103,13 +120,14 @@ pub fn optima(records: &[Record], way: u32, count: usize) -> Vec<Best> {
         let record = &records[position];
         let mut clade = Clade::default();
         if record.is_taxon() {
-            clade = Clade::taxon(record, bit, way, count);
+            clade = Clade::taxon(bit, way);
             bit = bit.rotate_left(1);
         }
         for member in outline::members(records, position) {
             clade.join(&take(&mut clades[member]), way, count);
         }
-        clade.charge(record.length);
+        clade.lengthen(record.length);
+        clade.charge(record.price, count);
         clades[position] = clade;
     }
     let root = take(&mut clades[0]);
@@ -165,22 +183,54 @@ mod tests {
     use super::*;
     use crate::cases;
     use crate::exhaustive::{search, subsets};
+    use crate::heading_cases;
+    use crate::headings::{self, Tally};
     use crate::random::Random;
     use crate::shapes;
 
     #[test]
     fn agrees_with_the_exhaustive_search() {
         let rng = &mut Random::new(1);
+        let mut tally = Tally::default();
         for _ in 0..3_000 {
             let taxa = 1 + rng.index(8);
             let mut records = shapes::random_outline(taxa, 30, rng);
             let count = rng.up_to(25);
             shapes::fill_randomly(&mut records, count, rng);
+            headings::fill_at_times(&mut records, count, rng);
+            tally.add(&records);
             let order = subsets(taxa);
             for way in [ROOTED, UNROOTED] {
                 let expected = search(&records, way, count, &order);
                 assert_eq!(solve(&records, way, count), expected, "{records:?}");
             }
+        }
+        assert!(tally.with > 1_500 && tally.without > 750, "{tally:?}");
+    }
+
+    #[test]
+    fn gives_the_cases_with_headings() {
+        for case in heading_cases::all() {
+            let solution = solve(&case.records, case.way, case.count);
+            let last = *solution.columns.last().unwrap();
+            assert_eq!(last, [case.diversity, case.cost], "{}", case.name);
+            assert_eq!(solution.marks, case.marks(), "{}", case.name);
+        }
+    }
+
+    #[test]
+    fn moving_right_drops_what_the_page_count_has_no_room_for() {
+        for (price, moved) in [
+            (0, vec![7, 0, 9]),
+            (1, vec![0, 7, 0, 9]),
+            (2, vec![0, 0, 7, 0]),
+            (3, vec![0, 0, 0, 7]),
+            (4, vec![]),
+            (65_535, vec![]),
+        ] {
+            let mut row = vec![7, 0, 9];
+            move_right(&mut row, price, 3);
+            assert_eq!(row, moved, "{price}");
         }
     }
 

@@ -1,18 +1,10 @@
 //! The proofing cases A1 to G of document 01.
 
-use crate::support::{pairs, plates, sound, star, tree_a};
+use crate::support::{pairs, sound, star, told, tree_a, WAYS};
 use plates::{choose, Choice, Outline, Tree, Way};
-
-const WAYS: [Way; 2] = [Way::Rooted, Way::Unrooted];
 
 fn chosen(outline: &Outline, count: u32, way: Way) -> Choice {
     choose(outline, count, way).expect("the count is in range")
-}
-
-/// Plates, diversity, cost, spare.
-fn told(choice: &Choice) -> (Vec<u32>, u32, u32, u32) {
-    let plates = plates(choice);
-    (plates, choice.diversity(), choice.cost(), choice.spare())
 }
 
 #[test]
@@ -73,7 +65,7 @@ fn c1_lower_record_at_equal_diversity_and_cost() {
 }
 
 #[test]
-fn c2_free_taxa_are_always_chosen() {
+fn c2_free_taxa_are_chosen() {
     let outline = sound(star(&[(0, 0), (0, 0)]));
     assert_eq!(
         told(&chosen(&outline, 0, Way::Rooted)),

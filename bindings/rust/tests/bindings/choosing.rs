@@ -1,14 +1,14 @@
 //! What holds of every choice, memory that is used again, calls at the same time, and a small
 //! stack.
 
-use crate::support::{chain, pairs, sound, star, tree_a};
-use plates::{choose, choose_in, Outline, Refusal, Tree, Way, Work, MOST_COUNT, MOST_RECORDS};
+use crate::support::{chain, headed_a, pairs, sound, star, tree_a, WAYS};
+use plates::{choose, choose_in, Outline, Record, Refusal, Tree, Way, Work};
+use plates::{MOST_COUNT, MOST_RECORDS};
+use std::iter::successors;
 use std::thread;
 
-const WAYS: [Way; 2] = [Way::Rooted, Way::Unrooted];
-
-/// Outlines of different sizes, larger and smaller in turn.
-fn outlines() -> [Outline; 5] {
+/// Outlines of different sizes, larger and smaller in turn, with headings and without.
+fn outlines() -> [Outline; 6] {
     let uneven = Tree::group(
         2,
         [
@@ -23,7 +23,20 @@ fn outlines() -> [Outline; 5] {
         sound(Tree::taxon(1, 1, 1)),
         sound(uneven),
         sound(star(&[(4, 1); 64])),
+        sound(headed_a(1, 2)),
     ]
+}
+
+/// Whether a record is, or has below it, one of the taxa.
+fn holds(outline: &Outline, taxa: &[Record], record: Record) -> bool {
+    let mut members = successors(outline.record(record.first), |m| outline.record(m.next));
+    taxa.contains(&record) || members.any(|member| holds(outline, taxa, member))
+}
+
+/// What a set of taxa costs: the prices of the records that are, or have below them, one of these.
+fn cost(outline: &Outline, taxa: &[Record]) -> u32 {
+    let paid = outline.records().filter(|r| holds(outline, taxa, *r));
+    paid.map(|record| record.price).sum()
 }
 
 #[test]
@@ -31,8 +44,7 @@ fn numbers_are_those_of_the_taxa() {
     for outline in outlines() {
         for way in WAYS {
             let choice = choose(&outline, 12, way).unwrap();
-            let prices = choice.taxa().iter().map(|taxon| taxon.price);
-            assert_eq!(choice.cost(), prices.sum::<u32>());
+            assert_eq!(choice.cost(), cost(&outline, choice.taxa()));
             assert_eq!(choice.spare(), 12 - choice.cost());
             for (record, mark) in outline.records().zip(choice.marks()) {
                 assert_eq!(choice.taxa().contains(&record), *mark == 1);

@@ -131,7 +131,7 @@ fn field_out_of_range() {
             Refusal::FieldOutOfRange { record: 4 }
         );
     }
-    let group_faults = [(2, 1_000_001), (3, 1), (4, 1)];
+    let group_faults = [(2, 1_000_001), (3, 65_536), (3, u32::MAX), (4, 1)];
     for (field, value) in group_faults {
         assert_eq!(
             refused(&changed(2, field, value)),

@@ -1,6 +1,8 @@
-//! Trees and bytes that several tests use.
+//! Trees, bytes and numbers that several tests use.
 
-use plates::{Choice, Outline, Tree};
+use plates::{Choice, Outline, Tree, Way};
+
+pub const WAYS: [Way; 2] = [Way::Rooted, Way::Unrooted];
 
 /// The fields of a record: next, first, length, price, plate.
 pub type Fields = [u32; 5];
@@ -52,10 +54,23 @@ pub fn chain(records: usize) -> Tree {
     (1..records).fold(Tree::taxon(1, 1, 1), |below, _| Tree::group(1, [below]))
 }
 
+/// Tree A with prices of the root's heading and of its group's.
+pub fn headed_a(root: u32, group: u32) -> Tree {
+    let inner = [Tree::taxon(11, 4, 3), Tree::taxon(12, 2, 1)];
+    let members = [Tree::headed_group(3, group, inner), Tree::taxon(13, 5, 2)];
+    Tree::headed_group(0, root, members)
+}
+
 pub fn sound(tree: Tree) -> Outline {
     tree.outline().expect("the tree is sound")
 }
 
 pub fn plates(choice: &Choice) -> Vec<u32> {
     choice.taxa().iter().map(|taxon| taxon.plate).collect()
+}
+
+/// Plates, diversity, cost, spare.
+pub fn told(choice: &Choice) -> (Vec<u32>, u32, u32, u32) {
+    let plates = plates(choice);
+    (plates, choice.diversity(), choice.cost(), choice.spare())
 }

@@ -91,6 +91,7 @@ fn fields_out_of_range_are_refused() {
         Tree::taxon(2, 0, 65_536),
         Tree::taxon(0, 0, 0),
         Tree::group(1_000_001, [taxon(2)]),
+        Tree::headed_group(0, 65_536, [taxon(2)]),
     ];
     for fault in faults {
         let refusal = refused(Tree::group(0, [taxon(1), fault]));

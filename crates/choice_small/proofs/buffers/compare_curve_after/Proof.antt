@@ -8,7 +8,7 @@ abbrev Inv-loop : tie.InvT-loop
 Inv-loop curve count written tally₀ i₀ t6 tally i = Unit
 
 abbrev μ-loop : tie.MeasureT-loop
-μ-loop curve count written tally₀ i₀ t6 tally i = 52 - i
+μ-loop curve count written tally₀ i₀ t6 tally i = 92 - i
 
 pub compare-curve-after-spec : {M : Type 1} → statement M
 compare-curve-after-spec =

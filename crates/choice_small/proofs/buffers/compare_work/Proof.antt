@@ -8,7 +8,7 @@ abbrev Inv-loop : tie.InvT-loop
 Inv-loop work n count tally₀ i₀ t7 tally i = Unit
 
 abbrev μ-loop : tie.MeasureT-loop
-μ-loop work n count tally₀ i₀ t7 tally i = 1310 - i
+μ-loop work n count tally₀ i₀ t7 tally i = 2350 - i
 
 pub compare-work-spec : {M : Type 1} → statement M
 compare-work-spec =

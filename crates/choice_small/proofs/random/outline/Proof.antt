@@ -5,10 +5,10 @@ use Rattle.choice_small.proofs.random.outline.Statement.{statement}
 use Rattle.choice_small.proofs.random.outline.Tie as tie
 
 abbrev Inv-loop : tie.InvT-loop
-Inv-loop seed₀ n lengths next first o₀ r₀ seed o r = 1 ≤ r
+Inv-loop seed₀ n highest next first o₀ r₀ seed o r = 1 ≤ r
 
 abbrev μ-loop : tie.MeasureT-loop
-μ-loop seed₀ n lengths next first o₀ r₀ seed o r = 12 - r
+μ-loop seed₀ n highest next first o₀ r₀ seed o r = 12 - r
 
 pub outline-spec : {M : Type 1} → statement M
 outline-spec =

@@ -5,10 +5,10 @@ use Rattle.choice_small.proofs.sets.cost.Statement.{statement}
 use Rattle.choice_small.proofs.sets.cost.Tie as tie
 
 abbrev Inv-loop : tie.InvT-loop
-Inv-loop o set sum₀ r₀ sum r = 1 ≤ r
+Inv-loop o set below sum₀ r₀ sum r = 1 ≤ r
 
 abbrev μ-loop : tie.MeasureT-loop
-μ-loop o set sum₀ r₀ sum r = 12 - r
+μ-loop o set below sum₀ r₀ sum r = 12 - r
 
 pub cost-spec : {M : Type 1} → statement M
 cost-spec =
@@ -16,6 +16,7 @@ cost-spec =
     (tie.spec
     Inv-loop
     μ-loop
+    (λ c κs. search needs)
     (λ c. search needs)
     (λ c. search needs)
     (λ c. search needs)

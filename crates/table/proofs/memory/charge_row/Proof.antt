@@ -1,54 +1,32 @@
--- `table::memory::charge_row` meets its contract: each turn puts one column, made of two that stand as they did at entry.
-use Prim.Native.Nat.{_+_, _-_}
-use mathlib.Core.Path.{_≡_, ap, ap₂, _∙_}
+-- `table::memory::charge_row` meets its contract: all of it at once under a free heading, else from the price on and below it.
 use borrow.Author.Needs.{needs}
-use Rattle.laws.specs.Candidate.{betterOf, chargeOf}
-use Rattle.table.specs.Cells.{view, cell}
-use Rattle.table.specs.Memory.{rowAt, chargeOver}
-use Rattle.table.proofs.Written.{Filling, filling-starts, filling-goes, filling-ends, aside-same}
+use Rattle.table.proofs.TaxonRows.{charges-from, betters-below, charging-whole}
 use Rattle.table.proofs.memory.charge_row.Statement.{statement}
 use Rattle.table.proofs.memory.charge_row.Tie as tie
 
-abbrev Inv-loop : tie.InvT-loop
-Inv-loop work₀ to x branch y width b₀ work b = Filling to 0 width (chargeOver (rowAt work₀ x) branch (rowAt work₀ y)) work₀ work b
+charge-from-requires : tie.Need-charge-from-requires
+charge-from-requires c κs = rw (c .before .if1 .taken) at (charges-from (c .before .before .before .pre))
 
-abbrev μ-loop : tie.MeasureT-loop
-μ-loop work₀ to x branch y width b₀ work b = width - b
+returns : tie.Need-returns
+returns c =
+    let f = c .before .before in
+    rw (f .before .before .if1 .taken) (f .charge-from .ensures)
 
--- what is read first stood there at entry
-first-same : (c : tie.After-read Inv-loop μ-loop) →
-    let s = c .before .before .before .before .before in
-    view (c .read .result) ≡ cell (s .args .work .now) (s .args .x + c .before .before .before .loop .b)
-first-same c =
-    let loop = c .before .before .before .loop in
-    c .read .ensures ∙ aside-same (loop .inv) (c .before .before .before .before .before .pre .charged .aside) (search needs)
+better-rows-requires : tie.Need-better-rows-requires
+better-rows-requires c κs =
+    let f = c .before .before .before .before in
+    betters-below (f .before .before .before .before .pre) (f .charge-from2 .kept .0) (f .charge-from2 .ensures) (c .least .ensures)
 
-charged-requires : tie.Need-charged-requires Inv-loop μ-loop
-charged-requires c κs =
-    let first = c .before .before .before in
-    rw (first-same first) (first .before .before .before .before .before .pre .fits (first .before .before .before .loop .b) (search needs))
-
-column-requires : tie.Need-column-requires Inv-loop μ-loop
-column-requires c κs =
-    let loop = c .before .before .before .before .loop in
-    let pre = c .before .before .before .before .before .before .pre in
-    (search needs, λ z. aside-same (loop .inv) (pre .over .aside) (search needs) ∙ pre .blank z (loop .b) (search needs))
-
-loop-again : tie.Need-loop-again Inv-loop μ-loop
-loop-again c =
-    let p = c .before .before in
-    let charge = p .before .before in
-    let second = charge .before .before in
-    let first = second .before .before in
-    let loop = first .before .before .before .loop in
-    let s = first .before .before .before .before .before in
-    let same-x = charge .charged .ensures ∙ ap (λ d. chargeOf d (s .args .branch)) (first-same first) in
-    let same-y = second .column .ensures ∙ aside-same (loop .inv) (s .pre .over .aside) (search needs) in
-    filling-goes (loop .inv) (search needs) (p .put .ensures) (p .put .kept .0) (p .before .better .ensures ∙ ap₂ betterOf same-x same-y)
+returns-2 : tie.Need-returns-2
+returns-2 c =
+    let r = c .before .before in
+    let l = r .before in
+    let f = l .before .before .before .before in
+    charging-whole (f .before .before .before .before .pre) (f .charge-from2 .kept .0) (f .charge-from2 .ensures) (l .least .ensures)
+    (r .better-rows .ensures)
 
 pub charge-row-spec : {M : Type 1} → statement M
 charge-row-spec =
     tie.close
-    (tie.spec Inv-loop μ-loop (λ c. filling-starts _ _ _ _ _) (λ c. search needs) (λ c κs. search needs) column-requires (λ c. search needs)
-    charged-requires (λ c κs. search needs) (λ c κs. search needs) (λ c. search needs) (λ c. search needs) loop-again
-    (λ c. c .before .loop .inv .long) (λ c. filling-ends (c .before .loop .inv) (c .loop-test .left)))
+    (tie.spec charge-from-requires (λ c. search needs) returns (λ c κs. charges-from (c .before .before .before .pre)) (λ c κs. search needs)
+    better-rows-requires (λ c. search needs) returns-2)

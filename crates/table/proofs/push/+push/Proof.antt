@@ -12,13 +12,14 @@ use Rattle.outline.specs.Outline.{first}
 use Rattle.table.specs.Table.{start}
 use Rattle.table.proofs.Places.{own-inside, At, to-next, to-first}
 use Rattle.table.proofs.Pushing.{left, left-less, done-none, ready-next, is-taxon, none-row₁, joins-taxon, done-taxon}
-use Rattle.table.proofs.Pushing.{betters-follow, ready-first, chargeable, done-group}
+use Rattle.table.proofs.Pushing.{betters-follow, ready-first, charges, done-group}
 use Rattle.table.proofs.push.push.Reads as push
 use Rattle.table.proofs.push.push.Kinds as push-kinds
 use Rattle.table.proofs.push.+push.Lts-push as push-lts
 use Rattle.outline.proofs.fields.branch_of.Reads as branch-of-reads
 use Rattle.outline.proofs.fields.first_of.Reads as first-of-reads
 use Rattle.outline.proofs.fields.next_of.Reads as next-of-reads
+use Rattle.outline.proofs.fields.price_of.Reads as price-of-reads
 use Rattle.table.proofs.memory.charge_row.Reads as charge-row-reads
 use Rattle.table.proofs.push.follow_row.Reads as follow-row-reads
 use Rattle.table.proofs.taxa.taxon_row.Reads as taxon-row-reads
@@ -49,6 +50,8 @@ calls t = (
   follow-row-reads.Learnt,
   branch-of-reads.Asked,
   branch-of-reads.Learnt,
+  price-of-reads.Asked,
+  price-of-reads.Learnt,
   charge-row-reads.Asked,
   charge-row-reads.Learnt,
 )
@@ -168,20 +171,24 @@ module _ (t : ℕ) where
   branch-of-requires : push-lts.Need-branch-of-requires (calls t) (push-at t) push.Post
   branch-of-requires c κs = record-r (rest (c .before .before .before .before .before .before .before .before .before) .before .before .before)
 
+  price-of-requires : push-lts.Need-price-of-requires (calls t) (push-at t) push.Post
+  price-of-requires c κs = record-r (rest (c .before .before .before .before .before .before .before .before .before .before) .before .before .before)
+
   charge-row-requires : push-lts.Need-charge-row-requires (calls t) (push-at t) push.Post
   charge-row-requires c κs =
-      let b = c .before in
+      let p = c .before in
+      let b = p .before in
       let m = b .before .before .before in
       let w = m .before .before .before .before in
       let f = w .before .before .before in
-      rw (b .branch-of .ensures)
-      (chargeable (opened f .pre .1) (at f) (rest f .push .ensures) (rest f .push .kept .1 .1 .1 .1 .1 .0) (w .before .before .if2 .left)
+      rw (b .branch-of .ensures, p .price-of .ensures)
+      (charges (opened f .pre .1) (at f) (rest f .push .ensures) (rest f .push .kept .1 .1 .1 .1 .1 .0) (w .before .before .if2 .left)
       (w .follow-row .ensures) (w .follow-row .kept .0) (m .push2 .ensures) (m .push2 .kept .1 .1 .1 .1 .1 .0))
 
   same-length-2 : push-lts.Need-same-length-2 (calls t) (push-at t) push.Post
   same-length-2 c =
       let r = c .before .before in
-      let m = r .before .before .before .before .before in
+      let m = r .before .before .before .before .before .before in
       let w = m .before .before .before .before in
       r .charge-row .kept .0 ∙ m .push2 .kept .1 .1 .1 .1 .1 .0 ∙ w .follow-row .kept .0
       ∙ rest (w .before .before .before) .push .kept .1 .1 .1 .1 .1 .0
@@ -189,13 +196,14 @@ module _ (t : ℕ) where
   returns-3 : push-lts.Need-returns-3 (calls t) (push-at t) push.Post
   returns-3 c =
       let r = c .before .before in
-      let b = r .before .before in
+      let p = r .before .before in
+      let b = p .before in
       let m = b .before .before .before in
       let w = m .before .before .before .before in
       let f = w .before .before .before in
       done-group (opened f .pre .1) (at f) (rest f .push .ensures) (rest f .push .kept .1 .1 .1 .1 .1 .0) (w .before .before .if2 .left)
       (w .follow-row .ensures) (w .follow-row .kept .0) (m .push2 .ensures) (m .push2 .kept .1 .1 .1 .1 .1 .0)
-      (rw (b .branch-of .ensures) at (r .charge-row .ensures))
+      (rw (b .branch-of .ensures, p .price-of .ensures) at (r .charge-row .ensures))
 
 pub +push-spec : {M : Type 1} → statement M
 +push-spec =
@@ -203,4 +211,4 @@ pub +push-spec : {M : Type 1} → statement M
     (λ t.
     push-lts.spec (calls t) (push-at t) push.Post (returns t) (add-own t) (mul-own t) (mul-own-2 t) (next-of-requires t) (add-push t)
     (push-requires t) (first-of-requires t) (taxon-row-requires t) (same-length t) (returns-2 t) (follow-row-requires t) (push-requires-2 t)
-    (branch-of-requires t) (λ c. search needs) (charge-row-requires t) (same-length-2 t) (returns-3 t))
+    (branch-of-requires t) (λ c. search needs) (price-of-requires t) (λ c. search needs) (charge-row-requires t) (same-length-2 t) (returns-3 t))

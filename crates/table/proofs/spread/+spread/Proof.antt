@@ -11,11 +11,11 @@ use Rattle.outline.specs.Inner.{IsRecord}
 use Rattle.outline.specs.Outline.{first}
 use Rattle.laws.specs.Forest.{tree}
 use Rattle.table.specs.Spread.{recordsIn}
-use Rattle.table.specs.Table.{start}
-use Rattle.table.proofs.Places.{own-inside, At, to-next, to-first}
+use Rattle.table.specs.Table.{start, mostAbove}
+use Rattle.table.proofs.Places.{own-inside, At, to-next, to-first, prices-here}
 use Rattle.table.proofs.Pushing.{left, left-less}
 use Rattle.table.proofs.SpreadSteps.{records-most, spread-none, spreadable-next, taxon-spreadable, spread-taxon-done}
-use Rattle.table.proofs.SpreadSteps.{spreadable-last, chargeable-last, spread-last, spreadable-first, chargeable-first, crossable, meets}
+use Rattle.table.proofs.SpreadSteps.{spreadable-last, charges-last, spread-last, spreadable-first, charges-first, crossable, meets}
 use Rattle.table.proofs.SpreadSteps.{spread-more}
 use Rattle.table.proofs.spread.spread.Reads as spread
 use Rattle.table.proofs.spread.spread.Kinds as spread-kinds
@@ -23,6 +23,7 @@ use Rattle.table.proofs.spread.+spread.Lts-spread as spread-lts
 use Rattle.outline.proofs.fields.branch_of.Reads as branch-of-reads
 use Rattle.outline.proofs.fields.first_of.Reads as first-of-reads
 use Rattle.outline.proofs.fields.next_of.Reads as next-of-reads
+use Rattle.outline.proofs.fields.price_of.Reads as price-of-reads
 use Rattle.table.proofs.memory.charge_row.Reads as charge-row-reads
 use Rattle.table.proofs.spread.cross.Reads as cross-reads
 use Rattle.table.proofs.spread.meet.Reads as meet-reads
@@ -55,6 +56,8 @@ calls t = (
   spread-taxon-reads.Learnt,
   branch-of-reads.Asked,
   branch-of-reads.Learnt,
+  price-of-reads.Asked,
+  price-of-reads.Learnt,
   charge-row-reads.Asked,
   charge-row-reads.Learnt,
   cross-reads.Asked,
@@ -155,7 +158,7 @@ module _ (t : ℕ) where
   spread-taxon-requires c κs =
       let a = c .before in
       let f = a .before .before in
-      taxon-spreadable (opened f .pre .1) (at f) (rest f .spread .ensures) (rest f .spread .kept .1 .1 .1 .1 .0) (a .before .if2 .taken)
+      taxon-spreadable (opened f .pre .1) (at f) (rest f .spread .ensures) (rest f .spread .kept .1 .1 .1 .1 .1 .0) (a .before .if2 .taken)
       (a .rest-at .ensures)
 
   add-result : spread-lts.Need-add-result (calls t) (spread-at t) spread.Post
@@ -164,95 +167,122 @@ module _ (t : ℕ) where
   same-length : spread-lts.Need-same-length (calls t) (spread-at t) spread.Post
   same-length c =
       let r = c .before .before in
-      r .spread-taxon .kept .1 .1 .1 .1 .1 .0 ∙ rest (r .before .before .before .before) .spread .kept .1 .1 .1 .1 .0
+      r .spread-taxon .kept .1 .1 .1 .1 .1 .1 .0 ∙ rest (r .before .before .before .before) .spread .kept .1 .1 .1 .1 .1 .0
 
   returns-2 : spread-lts.Need-returns-2 (calls t) (spread-at t) spread.Post
   returns-2 c =
       let r = c .before .before in
       let a = r .before .before in
       let f = a .before .before in
-      spread-taxon-done (opened f .pre .1) (at f) (rest f .spread .ensures) (rest f .spread .kept .1 .1 .1 .1 .0) (a .before .if2 .taken)
+      spread-taxon-done (opened f .pre .1) (at f) (rest f .spread .ensures) (rest f .spread .kept .1 .1 .1 .1 .1 .0) (a .before .if2 .taken)
       (a .rest-at .ensures) (r .spread-taxon .ensures)
 
   branch-of-requires : spread-lts.Need-branch-of-requires (calls t) (spread-at t) spread.Post
   branch-of-requires c κs = record-r (rest (c .before) .before .before .before)
 
+  price-of-requires : spread-lts.Need-price-of-requires (calls t) (spread-at t) spread.Post
+  price-of-requires c κs = record-r (rest (c .before .before) .before .before .before)
+
+  -- what is above stays small
+  above-most : (p : spread-lts.After-price-of (calls t) (spread-at t) spread.Post) →
+      let s = opened (p .before .before .before) .args in
+      s .above + p .price-of .result ≤ mostAbove
+  above-most p =
+      let f = p .before .before .before in
+      omega (arith, p .price-of .ensures, prices-here (at f), opened f .pre .1 .above-fits)
+
+  add-spread-2 : spread-lts.Need-add-spread-2 (calls t) (spread-at t) spread.Post
+  add-spread-2 c = omega (arith, above-most (c .before))
+
+  add-spread-3 : spread-lts.Need-add-spread-3 (calls t) (spread-at t) spread.Post
+  add-spread-3 c = omega (arith, above-most (c .before))
+
   spread-requires-2 : spread-lts.Need-spread-requires-2 (calls t) (spread-at t) spread.Post
   spread-requires-2 c κs =
-      let b = c .before .before in
-      let f = b .before .before in (
+      let p = c .before .before in
+      let b = p .before in
+      let f = b .before .before in
+      rw (p .price-of .ensures) (
         omega (arith, left-less _ _ _ (at f .positive) (at f .most) (to-first (at f)), opened f .pre .0),
-        spreadable-last (opened f .pre .1) (at f) (rest f .spread .ensures) (rest f .spread .kept .1 .1 .1 .1 .0) (b .before .if2 .left)
+        spreadable-last (opened f .pre .1) (at f) (rest f .spread .ensures) (rest f .spread .kept .1 .1 .1 .1 .1 .0) (b .before .if2 .left)
             (c .before .if3 .taken),
       )
 
   charge-row-requires : spread-lts.Need-charge-row-requires (calls t) (spread-at t) spread.Post
   charge-row-requires c κs =
       let m = c .before .before .before in
-      let b = m .before .before .before in
+      let p = m .before .before .before in
+      let b = p .before in
       let f = b .before .before in
-      rw (b .branch-of .ensures)
-      (chargeable-last (opened f .pre .1) (at f) (rest f .spread .ensures) (rest f .spread .kept .1 .1 .1 .1 .0) (b .before .if2 .left)
-      (m .before .before .if3 .taken) (m .spread2 .ensures) (m .spread2 .kept .1 .1 .1 .1 .0))
+      rw (b .branch-of .ensures, p .price-of .ensures)
+      (charges-last (opened f .pre .1) (at f) (rest f .spread .ensures) (rest f .spread .kept .1 .1 .1 .1 .1 .0) (b .before .if2 .left)
+      (m .before .before .if3 .taken) (rw (p .price-of .ensures) at (m .spread2 .ensures)) (m .spread2 .kept .1 .1 .1 .1 .1 .0))
 
   add-result-2 : spread-lts.Need-add-result-2 (calls t) (spread-at t) spread.Post
   add-result-2 c =
       let m = c .before .before .before .before .before .before in
-      omega (arith, members-most (m .before .before .before .before .before) (m .spread2 .ensures .records))
+      omega (arith, members-most (m .before .before .before .before .before .before) (m .spread2 .ensures .records))
 
   same-length-2 : spread-lts.Need-same-length-2 (calls t) (spread-at t) spread.Post
   same-length-2 c =
       let r = c .before .before in
       let m = r .before .before .before .before in
-      r .charge-row .kept .0 ∙ m .spread2 .kept .1 .1 .1 .1 .0 ∙ rest (m .before .before .before .before .before) .spread .kept .1 .1 .1 .1 .0
+      r .charge-row .kept .0 ∙ m .spread2 .kept .1 .1 .1 .1 .1 .0 ∙ rest (m .before .before .before .before .before .before) .spread .kept .1 .1 .1 .1 .1 .0
 
   returns-3 : spread-lts.Need-returns-3 (calls t) (spread-at t) spread.Post
   returns-3 c =
       let r = c .before .before in
       let m = r .before .before .before .before in
-      let b = m .before .before .before in
+      let p = m .before .before .before in
+      let b = p .before in
       let f = b .before .before in
-      spread-last (opened f .pre .1) (at f) (rest f .spread .ensures) (rest f .spread .kept .1 .1 .1 .1 .0) (b .before .if2 .left)
-      (m .before .before .if3 .taken) (m .spread2 .ensures) (m .spread2 .kept .1 .1 .1 .1 .0) (rw (b .branch-of .ensures) at (r .charge-row .ensures))
+      spread-last (opened f .pre .1) (at f) (rest f .spread .ensures) (rest f .spread .kept .1 .1 .1 .1 .1 .0) (b .before .if2 .left)
+      (m .before .before .if3 .taken) (rw (p .price-of .ensures) at (m .spread2 .ensures)) (m .spread2 .kept .1 .1 .1 .1 .1 .0)
+      (rw (b .branch-of .ensures, p .price-of .ensures) at (r .charge-row .ensures))
 
   spread-requires-3 : spread-lts.Need-spread-requires-3 (calls t) (spread-at t) spread.Post
   spread-requires-3 c κs =
-      let b = c .before .before in
-      let f = b .before .before in (
+      let p = c .before .before in
+      let b = p .before in
+      let f = b .before .before in
+      rw (p .price-of .ensures) (
         omega (arith, left-less _ _ _ (at f .positive) (at f .most) (to-first (at f)), opened f .pre .0),
-        spreadable-first (opened f .pre .1) (at f) (rest f .spread .ensures) (rest f .spread .kept .1 .1 .1 .1 .0) (b .before .if2 .left)
+        spreadable-first (opened f .pre .1) (at f) (rest f .spread .ensures) (rest f .spread .kept .1 .1 .1 .1 .1 .0) (b .before .if2 .left)
             (c .before .if3 .left),
       )
 
   charge-row-requires-2 : spread-lts.Need-charge-row-requires-2 (calls t) (spread-at t) spread.Post
   charge-row-requires-2 c κs =
       let m = c .before .before .before in
-      let b = m .before .before .before in
+      let p = m .before .before .before in
+      let b = p .before in
       let f = b .before .before in
-      rw (b .branch-of .ensures)
-      (chargeable-first (opened f .pre .1) (at f) (rest f .spread .ensures) (rest f .spread .kept .1 .1 .1 .1 .0) (b .before .if2 .left)
-      (m .before .before .if3 .left) (m .spread3 .ensures) (m .spread3 .kept .1 .1 .1 .1 .0))
+      rw (b .branch-of .ensures, p .price-of .ensures)
+      (charges-first (opened f .pre .1) (at f) (rest f .spread .ensures) (rest f .spread .kept .1 .1 .1 .1 .1 .0) (b .before .if2 .left)
+      (m .before .before .if3 .left) (rw (p .price-of .ensures) at (m .spread3 .ensures)) (m .spread3 .kept .1 .1 .1 .1 .1 .0))
 
   cross-requires : spread-lts.Need-cross-requires (calls t) (spread-at t) spread.Post
   cross-requires c κs =
       let g = c .before .before .before in
       let m = g .before .before .before .before in
-      let b = m .before .before .before in
+      let p = m .before .before .before in
+      let b = p .before in
       let f = b .before .before in
-      crossable (opened f .pre .1) (at f) (rest f .spread .ensures) (rest f .spread .kept .1 .1 .1 .1 .0) (b .before .if2 .left)
-      (m .before .before .if3 .left) (m .spread3 .ensures) (m .spread3 .kept .1 .1 .1 .1 .0)
-      (rw (b .branch-of .ensures) at (g .charge-row2 .ensures)) (g .charge-row2 .kept .0)
+      crossable (opened f .pre .1) (at f) (rest f .spread .ensures) (rest f .spread .kept .1 .1 .1 .1 .1 .0) (b .before .if2 .left)
+      (m .before .before .if3 .left) (rw (p .price-of .ensures) at (m .spread3 .ensures)) (m .spread3 .kept .1 .1 .1 .1 .1 .0)
+      (rw (b .branch-of .ensures, p .price-of .ensures) at (g .charge-row2 .ensures)) (g .charge-row2 .kept .0)
 
   meet-requires : spread-lts.Need-meet-requires (calls t) (spread-at t) spread.Post
   meet-requires c κs =
       let x = c .before .before .before in
       let g = x .before .before .before .before in
       let m = g .before .before .before .before in
-      let b = m .before .before .before in
+      let p = m .before .before .before in
+      let b = p .before in
       let f = b .before .before in
-      meets (opened f .pre .1) (at f) (rest f .spread .ensures) (rest f .spread .kept .1 .1 .1 .1 .0) (b .before .if2 .left)
-      (m .before .before .if3 .left) (m .spread3 .ensures) (m .spread3 .kept .1 .1 .1 .1 .0)
-      (rw (b .branch-of .ensures) at (g .charge-row2 .ensures)) (g .charge-row2 .kept .0)
+      meets (opened f .pre .1) (at f) (rest f .spread .ensures) (rest f .spread .kept .1 .1 .1 .1 .1 .0) (b .before .if2 .left)
+      (m .before .before .if3 .left) (rw (p .price-of .ensures) at (m .spread3 .ensures)) (m .spread3 .kept .1 .1 .1 .1 .1 .0)
+      (rw (b .branch-of .ensures, p .price-of .ensures) at (g .charge-row2 .ensures)) (g .charge-row2 .kept .0)
       (x .cross .ensures) (x .cross .kept .1 .1 .1 .1 .1 .0)
 
   -- the records of both, at the end
@@ -261,14 +291,14 @@ module _ (t : ℕ) where
       let x = u .before .before .before .before in
       let g = x .before .before .before .before in
       let m = g .before .before .before .before in
-      let f = m .before .before .before .before .before in
+      let f = m .before .before .before .before .before .before in
       (rest f .spread .result ≤ 127) × (m .spread3 .result ≤ 127)
   both-most c =
       let u = c .before .before in
       let x = u .before .before .before .before in
       let g = x .before .before .before .before in
       let m = g .before .before .before .before in
-      let f = m .before .before .before .before .before in
+      let f = m .before .before .before .before .before .before in
       (later-most f, members-most f (m .spread3 .ensures .records))
 
   add-result-3 : spread-lts.Need-add-result-3 (calls t) (spread-at t) spread.Post
@@ -283,8 +313,8 @@ module _ (t : ℕ) where
       let x = u .before .before .before .before in
       let g = x .before .before .before .before in
       let m = g .before .before .before .before in
-      u .meet .kept .0 ∙ x .cross .kept .1 .1 .1 .1 .1 .0 ∙ g .charge-row2 .kept .0 ∙ m .spread3 .kept .1 .1 .1 .1 .0
-      ∙ rest (m .before .before .before .before .before) .spread .kept .1 .1 .1 .1 .0
+      u .meet .kept .0 ∙ x .cross .kept .1 .1 .1 .1 .1 .0 ∙ g .charge-row2 .kept .0 ∙ m .spread3 .kept .1 .1 .1 .1 .1 .0
+      ∙ rest (m .before .before .before .before .before .before) .spread .kept .1 .1 .1 .1 .1 .0
 
   returns-4 : spread-lts.Need-returns-4 (calls t) (spread-at t) spread.Post
   returns-4 c =
@@ -292,11 +322,12 @@ module _ (t : ℕ) where
       let x = u .before .before .before .before in
       let g = x .before .before .before .before in
       let m = g .before .before .before .before in
-      let b = m .before .before .before in
+      let p = m .before .before .before in
+      let b = p .before in
       let f = b .before .before in
-      spread-more (opened f .pre .1) (at f) (rest f .spread .ensures) (rest f .spread .kept .1 .1 .1 .1 .0) (b .before .if2 .left)
-      (m .before .before .if3 .left) (m .spread3 .ensures) (m .spread3 .kept .1 .1 .1 .1 .0)
-      (rw (b .branch-of .ensures) at (g .charge-row2 .ensures)) (g .charge-row2 .kept .0)
+      spread-more (opened f .pre .1) (at f) (rest f .spread .ensures) (rest f .spread .kept .1 .1 .1 .1 .1 .0) (b .before .if2 .left)
+      (m .before .before .if3 .left) (rw (p .price-of .ensures) at (m .spread3 .ensures)) (m .spread3 .kept .1 .1 .1 .1 .1 .0)
+      (rw (b .branch-of .ensures, p .price-of .ensures) at (g .charge-row2 .ensures)) (g .charge-row2 .kept .0)
       (x .cross .ensures) (x .cross .kept .1 .1 .1 .1 .1 .0) (u .meet .ensures)
 
 pub +spread-spec : {M : Type 1} → statement M
@@ -305,6 +336,6 @@ pub +spread-spec : {M : Type 1} → statement M
     (λ t.
     spread-lts.spec (calls t) (spread-at t) spread.Post (returns t) (add-own t) (mul-own t) (mul-own-2 t) (next-of-requires t) (add-spread t)
     (spread-requires t) (first-of-requires t) (add-rest-at t) (λ c κs. search needs) (spread-taxon-requires t) (add-result t) (same-length t)
-    (returns-2 t) (branch-of-requires t) (λ c. search needs) (spread-requires-2 t) (charge-row-requires t) (add-result-2 t) (same-length-2 t)
-    (returns-3 t) (spread-requires-3 t) (charge-row-requires-2 t) (cross-requires t) (meet-requires t) (add-result-3 t) (add-result-4 t)
-    (same-length-3 t) (returns-4 t))
+    (returns-2 t) (branch-of-requires t) (λ c. search needs) (price-of-requires t) (λ c. search needs) (add-spread-2 t) (spread-requires-2 t)
+    (charge-row-requires t) (add-result-2 t) (same-length-2 t) (returns-3 t) (add-spread-3 t) (spread-requires-3 t) (charge-row-requires-2 t)
+    (cross-requires t) (meet-requires t) (add-result-3 t) (add-result-4 t) (same-length-3 t) (returns-4 t))

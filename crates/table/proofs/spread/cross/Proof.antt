@@ -2,7 +2,7 @@
 use native.Mathlib.Omega.{arith}
 use borrow.Author.Needs.{needs}
 use Rattle.table.proofs.Places.{own-inside}
-use Rattle.table.proofs.Crossing.{ready-members, chargeable-cross, crossed-members, ready-rest, crossed-rest}
+use Rattle.table.proofs.Crossing.{ready-members, charges-cross, crossed-members, ready-rest, crossed-rest}
 use Rattle.table.proofs.spread.cross.Statement.{statement}
 use Rattle.table.proofs.spread.cross.Tie as tie
 
@@ -22,19 +22,22 @@ push-requires c κs =
 
 charge-row-requires : tie.Need-charge-row-requires
 charge-row-requires c κs =
-    let p = c .before .before .before .before in
+    let q = c .before in
+    let b = q .before in
+    let p = b .before .before .before in
     let f = p .before .before in
-    rw (c .branch-of .ensures)
-    (chargeable-cross (f .before .before .before .before .pre) (rw (f .first-of .ensures) at (p .push .ensures)) (p .push .kept .1 .1 .1 .1 .1 .0))
+    rw (b .branch-of .ensures, q .price-of .ensures)
+    (charges-cross (f .before .before .before .before .pre) (rw (f .first-of .ensures) at (p .push .ensures)) (p .push .kept .1 .1 .1 .1 .1 .0))
 
 returns : tie.Need-returns
 returns c =
     let r = c .before .before in
-    let b = r .before in
-    let p = b .before .before .before .before in
+    let q = r .before .before in
+    let b = q .before in
+    let p = b .before .before .before in
     let f = p .before .before in
     crossed-members (f .before .before .before .before .pre) (rw (f .first-of .ensures) at (p .push .ensures)) (p .push .kept .1 .1 .1 .1 .1 .0)
-    (rw (b .branch-of .ensures) at (r .charge-row .ensures))
+    (rw (b .branch-of .ensures, q .price-of .ensures) at (r .charge-row .ensures))
 
 push-requires-2 : tie.Need-push-requires-2
 push-requires-2 c κs =
@@ -51,4 +54,4 @@ pub cross-spec : {M : Type 1} → statement M
 cross-spec =
     tie.close
     (tie.spec (λ c. search needs) mul-own mul-own-2 (λ c κs. search needs) add-push push-requires (λ c κs. search needs) (λ c. search needs)
-    charge-row-requires (λ c. search needs) returns (λ c κs. search needs) push-requires-2 (λ c. search needs) returns-2)
+    (λ c κs. search needs) (λ c. search needs) charge-row-requires (λ c. search needs) returns (λ c κs. search needs) push-requires-2 (λ c. search needs) returns-2)

@@ -16,6 +16,12 @@ start c = c .before .before .before .before .before .before .before
 low : (c : tie.After-least) → c .least .result ≡ min (price (start c .args .o .now) (start c .args .r)) (start c .args .width)
 low c = rw (c .before .before .before .before .price-of .ensures) at (c .least .ensures)
 
+taxon-of-requires : tie.Need-taxon-of-requires
+taxon-of-requires c κs =
+    let s = c .before .before .before .before in
+    let ranged = s .pre .0 .kept .ranged (s .args .r) (s .pre .0 .low) (s .pre .0 .high) in
+    (s .pre .0, (omega (arith, c .branch-of .ensures, ranged .branch-most), omega (arith, c .before .price-of .ensures, ranged .price-most)))
+
 better-rows-requires : tie.Need-better-rows-requires
 better-rows-requires c κs =
     let pre = start c .pre in
@@ -50,5 +56,5 @@ returns c =
 pub taxon-row-spec : {M : Type 1} → statement M
 taxon-row-spec =
     tie.close
-    (tie.spec (λ c κs. search needs) (λ c. search needs) (λ c κs. search needs) (λ c. search needs) (λ c κs. search needs) (λ c κs. search needs)
+    (tie.spec (λ c κs. search needs) (λ c. search needs) (λ c κs. search needs) (λ c. search needs) taxon-of-requires (λ c κs. search needs)
     better-rows-requires join-row-requires (λ c. search needs) returns)
