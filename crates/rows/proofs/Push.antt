@@ -6,8 +6,8 @@ use mathlib.Core.List.{List}
 use mathlib.Core.Logic.{_⊎_, inl, inr}
 use native.Mathlib.Omega.{arith}
 use borrow.Author.Tests.{eq-eqb}
-use Rattle.outline.specs.Outline.{price}
 use Rattle.lists.specs.Lists.{one}
+use Rattle.outline.specs.Outline.{price}
 use Rattle.laws.specs.Forest.{Forest, empty, node, countIn}
 use Rattle.laws.specs.Candidate.{Value, plus, nothingWorth, Cand, betterOf}
 use Rattle.laws.proofs.Order.{plus-comm, plus-assoc, plus-nothing}

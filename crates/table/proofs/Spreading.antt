@@ -23,8 +23,7 @@ use Rattle.table.specs.Table.{IsTaxon, taxonWorth, Base, TaxonRow, Taxon
 use Rattle.table.specs.Spread.{Running, Bettered, Pairable, TaxonSpreadable, TaxonSpread, Tops, Meets, Met, BySingle, ByPairs, ByRow}
 use Rattle.table.proofs.Places.{base-kept, blank-none, front-inside}
 use Rattle.table.proofs.Pushing.{small-diversity, small-cost, small-code}
-use Rattle.table.proofs.TaxonRows.{join-below, join-same, join-row}
-use Rattle.table.proofs.Written.{le-or-lt}
+use Rattle.table.proofs.TaxonRows.{le-or-lt, join-below, join-same, join-row}
 
 -- ---- candidates
 -- what is nothing or better stays so

@@ -1,13 +1,14 @@
--- The row of a taxon, written in two parts: below its price, and from there on.
+-- Rows written in two parts, below a price and from there on: a taxon's, one that is charged with a heading, and one that is
+-- bettered by a taxon.
 use Prim.Native.Nat.{ℕ, _+_, _-_, _<_, _≤_, min}
 use mathlib.Core.Path.{_≡_, refl, sym, ap, ap₂, _∙_}
-use mathlib.Core.Logic.{inl, inr, ⊎-elim}
+use mathlib.Core.Logic.{_⊎_, inl, inr, ⊎-elim}
 use mathlib.Core.Bool.{Bool, true, false}
 use mathlib.Core.List.{List}
 use native.Mathlib.Omega.{arith}
 use lib.Dec.{leb}
 use lib.ListN.{length}
-use borrow.Author.Tests.{lt-leb}
+use borrow.Author.Tests.{leb-true, leb-false, lt-leb}
 use Rattle.lists.specs.Lists.{pick}
 use Rattle.laws.specs.Candidate.{Value, heading, Cand, none, some, betterOf, joinOf, oneAt}
 use Rattle.laws.proofs.Order.{better-none}
@@ -15,7 +16,13 @@ use Rattle.rows.specs.Rows.{Row, betterRow, joinRow}
 use Rattle.table.specs.Cells.{cell}
 use Rattle.table.specs.Memory.{rowAt, Written, Blank, joinFrom, joinOver, chargeOver, Betters, Bettering, Joins, Joining}
 use Rattle.table.specs.Memory.{ChargesFrom, ChargingFrom, Charges, Charging}
-use Rattle.table.proofs.Written.{le-or-lt}
+
+pub le-or-lt : (m n : ℕ) → (m ≤ n) ⊎ (n < m)
+le-or-lt m n = go (leb m n) refl
+  where
+    go : (t : Bool) → leb m n ≡ t → (m ≤ n) ⊎ (n < m)
+    go true e = inl (leb-true m n e)
+    go false e = inr (leb-false m n e)
 
 -- below the price there is nothing to join
 pub join-below : (c : Cand) (price : ℕ) (x : Row) (b : ℕ) → b < price → joinFrom c price x b ≡ none

@@ -1,16 +1,17 @@
 -- `table::memory::charge_from` meets its contract: each turn puts one column, made of two that stand as they did at entry.
 use Prim.Native.Nat.{_+_, _-_}
 use mathlib.Core.Path.{_≡_, ap, ap₂, _∙_}
+use native.Mathlib.Omega.{arith}
 use borrow.Author.Needs.{needs}
 use Rattle.laws.specs.Candidate.{betterOf, chargeOf}
 use Rattle.table.specs.Cells.{view, cell}
 use Rattle.table.specs.Memory.{rowAt, chargeOver}
-use Rattle.table.proofs.Written.{Draining, draining-starts, draining-goes, draining-ends, back-same, join-from}
+use Rattle.table.proofs.Written.{Filling, filling-starts, filling-back, filling-ends, back-same, join-from}
 use Rattle.table.proofs.memory.charge_from.Statement.{statement}
 use Rattle.table.proofs.memory.charge_from.Tie as tie
 
 abbrev Inv-loop : tie.InvT-loop
-Inv-loop work₀ to x branch price y width b₀ work b = Draining to price width (chargeOver (rowAt work₀ x) branch price (rowAt work₀ y)) work₀ work b
+Inv-loop work₀ to x branch price y width b₀ work b = Filling to price width (chargeOver (rowAt work₀ x) branch price (rowAt work₀ y)) work₀ work b width
 
 abbrev μ-loop : tie.MeasureT-loop
 μ-loop work₀ to x branch price y width b₀ work b = b
@@ -48,11 +49,11 @@ loop-again c =
     let same-x = charge .charged .ensures ∙ ap (λ d. chargeOf d (s .args .branch) (s .args .price)) (first-same first)
     ∙ join-from _ _ (rowAt (s .args .work .now) (s .args .x)) (loop .b - 1) (search needs) in
     let same-y = second .column .ensures ∙ back-same (loop .inv) (s .pre .over .aside) (loop .b - 1) (search needs) in
-    draining-goes (loop .inv) (search needs) (p .put .ensures) (p .put .kept .0) (p .before .better .ensures ∙ ap₂ betterOf same-x same-y)
+    filling-back (loop .inv) (search needs) (omega arith) (p .put .ensures) (p .put .kept .0) (p .before .better .ensures ∙ ap₂ betterOf same-x same-y)
 
 pub charge-from-spec : {M : Type 1} → statement M
 charge-from-spec =
     tie.close
-    (tie.spec Inv-loop μ-loop (λ c. draining-starts _ _ _ _ _) (λ c. search needs) (λ c. search needs) (λ c. search needs) (λ c κs. search needs)
+    (tie.spec Inv-loop μ-loop (λ c. filling-starts _ _ _ _ _ _) (λ c. search needs) (λ c. search needs) (λ c. search needs) (λ c κs. search needs)
     column-requires charged-requires (λ c. search needs) (λ c κs. search needs) (λ c κs. search needs) (λ c. search needs) loop-again
-    (λ c. c .before .loop .inv .long) (λ c. draining-ends (c .before .loop .inv) (c .loop-test .left)))
+    (λ c. c .before .loop .inv .long) (λ c. filling-ends (c .before .loop .inv) (c .loop-test .left) (omega arith)))

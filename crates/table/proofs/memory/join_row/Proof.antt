@@ -12,7 +12,7 @@ use Rattle.table.proofs.memory.join_row.Statement.{statement}
 use Rattle.table.proofs.memory.join_row.Tie as tie
 
 abbrev Inv-loop : tie.InvT-loop
-Inv-loop work₀ to c price x y z width b₀ work b = Filling to price width (joinOver (view c) price (rowAt work₀ x) (rowAt work₀ y) (rowAt work₀ z)) work₀ work b
+Inv-loop work₀ to c price x y z width b₀ work b = Filling to price width (joinOver (view c) price (rowAt work₀ x) (rowAt work₀ y) (rowAt work₀ z)) work₀ work price b
 
 abbrev μ-loop : tie.MeasureT-loop
 μ-loop work₀ to c price x y z width b₀ work b = width - b
@@ -53,7 +53,7 @@ joined-requires c κs =
     let first = c .before .before .before .before .before .before in
     let s = first .before .before .before .before .before in
     let loop = first .before .before .before .loop in
-    rw (follow c) (s .pre .fits (loop .b - s .args .price) (omega (arith, loop .inv .least)))
+    rw (follow c) (s .pre .fits (loop .b - s .args .price) (omega (arith, loop .inv .ordered)))
 
 add-b : tie.Need-add-b Inv-loop μ-loop
 add-b c =
@@ -70,13 +70,13 @@ loop-again c =
     let loop = first .before .before .before .loop in
     let s = first .before .before .before .before .before in
     let joined = join .joined .ensures ∙ ap (joinOf (view (s .args .c))) (follow better)
-    ∙ join-from _ _ (betterRow (rowAt (s .args .work .now) (s .args .x)) (rowAt (s .args .work .now) (s .args .y))) (loop .b) (loop .inv .least) in
+    ∙ join-from _ _ (betterRow (rowAt (s .args .work .now) (s .args .x)) (rowAt (s .args .work .now) (s .args .y))) (loop .b) (loop .inv .ordered) in
     let over = third .column2 .ensures ∙ aside-same (loop .inv) (s .pre .over .aside) (search needs) in
-    filling-goes (loop .inv) (search needs) (p .put .ensures) (p .put .kept .0) (p .before .better2 .ensures ∙ ap₂ betterOf joined over)
+    filling-goes (loop .inv) (omega arith) (search needs) (p .put .ensures) (p .put .kept .0) (p .before .better2 .ensures ∙ ap₂ betterOf joined over)
 
 pub join-row-spec : {M : Type 1} → statement M
 join-row-spec =
     tie.close
-    (tie.spec Inv-loop μ-loop (λ c. filling-starts _ _ _ _ _) (λ c. search needs) (λ c. search needs) (λ c κs. search needs) column-requires
+    (tie.spec Inv-loop μ-loop (λ c. filling-starts _ _ _ _ _ _) (λ c. search needs) (λ c. search needs) (λ c κs. search needs) column-requires
     column-requires-2 (λ c. search needs) (λ c κs. search needs) joined-requires (λ c κs. search needs) (λ c κs. search needs) add-b
-    (λ c. search needs) loop-again (λ c. c .before .loop .inv .long) (λ c. filling-ends (c .before .loop .inv) (c .loop-test .left)))
+    (λ c. search needs) loop-again (λ c. c .before .loop .inv .long) (λ c. filling-ends (c .before .loop .inv) (omega arith) (c .loop-test .left)))
