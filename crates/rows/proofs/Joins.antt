@@ -32,7 +32,7 @@ unfolding joinOf
 join-of-join v w none = refl
 join-of-join v w (some u) = ap some (sym (plus-assoc v w u))
 
-join-of-nothing : (c : Cand) → joinOf (some nothingWorth) c ≡ c
+pub join-of-nothing : (c : Cand) → joinOf (some nothingWorth) c ≡ c
 unfolding joinOf
 join-of-nothing none = refl
 join-of-nothing (some v) = ap some (nothing-plus v)

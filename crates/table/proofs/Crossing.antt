@@ -24,7 +24,7 @@ use Rattle.table.specs.Table.{start, Ready, Done, pushedFrom, rootedFrom
 use Rattle.table.specs.Spread.{Crossable, Crossed}
 use Rattle.table.proofs.Places.{gap, own-inside, At, to-next, to-first, branches-here, codes-here}
 use Rattle.table.proofs.Pushing.{small-diversity, small-cost}
-use Rattle.table.proofs.TaxonRows.{join-row, join-same}
+use Rattle.table.proofs.ByPrice.{join-row, join-same}
 
 module _ {o : List ℕ} {r to w : ℕ} {l₀ : List ℕ} (s : Crossable o r to w l₀) where
   abbrev kept : Kept o
@@ -86,7 +86,7 @@ module _ {o : List ℕ} {r to w : ℕ} {l₀ : List ℕ} (s : Crossable o r to w
     pub charges-cross : Charges l₁ to (branch o r) (price o r) 0 w
     charges-cross = record {
       inside = omega (arith, s .to-before, own-inside (s .base) (s .most));
-      above = s .to-above;
+      above = omega (arith, s .to-above);
       over-inside = omega (arith, s .to-before, own-inside (s .base) (s .most));
       over-apart = inr (omega (arith, s .to-above));
       blank = none₁;

@@ -12,8 +12,8 @@ use Rattle.laws.specs.Forest.{tree}
 use Rattle.laws.specs.Numbers.{weight}
 use Rattle.rows.proofs.Bounds.{branches, prices, codes, all-step, codes-step}
 use Rattle.table.specs.Cells.{cell}
-use Rattle.table.specs.Memory.{Blank}
-use Rattle.table.specs.Table.{start, Base}
+use Rattle.table.specs.Memory.{Blank, Idle}
+use Rattle.table.specs.Table.{IsTaxon, TerminalFills, start, Base}
 
 -- the rows of a record stand before those of a later one
 pub gap : (w m n : ℕ) → m < n → start w m + 2 * w ≤ start w n
@@ -22,18 +22,22 @@ gap w m n h =
     omega (arith, mul-le-mul-right w k)
 
 module _ {o : List ℕ} {w : ℕ} {l : List ℕ} (base : Base o w l) where
-  -- as long as the row of no set stays
-  pub base-kept : {m : List ℕ} → length m ≡ length l → ((b : ℕ) → b < w → cell m b ≡ cell l b) → Base o w m
+  -- as long as the rows of no set and of nothing chosen stay
+  pub base-kept : {m : List ℕ} → length m ≡ length l → ((k : ℕ) → k < 2 * w → cell m k ≡ cell l k) → Base o w m
   base-kept long same = record {
     kept = base .kept;
     wide = base .wide;
     narrow = base .narrow;
     long = omega (arith, base .long);
-    none-row = λ b h. same b h ∙ base .none-row b h;
+    none-row = λ b h. same b (omega arith) ∙ base .none-row b h;
+    nothing-row = λ b h. same (w + b) (omega arith) ∙ base .nothing-row b h;
   }
 
   pub blank-none : (a : ℕ) → Blank l a w
   blank-none a e b h = ap (cell l) (omega arith) ∙ base .none-row b h
+
+  pub idle-nothing : (a : ℕ) → Idle l a w
+  idle-nothing a e b h = ap (λ k. cell l (k + b)) e ∙ base .nothing-row b h
 
   -- the four rows before the records', and the two of a record
   pub front-inside : 2 * (4 * w) ≤ length l
@@ -41,6 +45,15 @@ module _ {o : List ℕ} {w : ℕ} {l : List ℕ} (base : Base o w l) where
 
   pub own-inside : {r : ℕ} → r ≤ size o → 2 * (start w r + 2 * w) ≤ length l
   own-inside {r} u = omega (arith, base .long, gap w r (size o + 1) (omega arith))
+
+  -- a taxon's row can be filled anywhere
+  pub terminal-fills : {r to : ℕ} → IsTaxon o r → 2 * (to + w) ≤ length l → TerminalFills o r to w l
+  terminal-fills is inside = record {
+    is = is;
+    inside = inside;
+    nothing-inside = omega (arith, front-inside, base .wide);
+    nothing = ap (cell l) (omega arith) ∙ base .nothing-row 0 (base .wide);
+  }
 
 -- at record r, whose members begin at f and the rest of whose chain at n
 pub record At (o : List ℕ) (r w : ℕ) (l : List ℕ) (n f : ℕ) : Type 0 where

@@ -20,9 +20,9 @@ use Rattle.rows.specs.Rows.{Row, betterRow, taxonRooted, headingRooted, cladeRo
 use Rattle.rows.proofs.Bounds.{Small, SmallRow, small-more, branches, codes, pushed-small}
 use Rattle.rows.proofs.Steps.{pushed-same, pushed-zero, pushed-step}
 use Rattle.table.specs.Cells.{cell, diversityOf, costOf, codeOf}
-use Rattle.table.specs.Memory.{rowAt, Blank, Betters, Charges, Charging, Bettering}
-use Rattle.table.proofs.Places.{gap, base-kept, blank-none, own-inside, At, to-next, to-first, branches-here, codes-here}
-use Rattle.table.proofs.TaxonRows.{join-row, join-same}
+use Rattle.table.specs.Memory.{rowAt, Betters, Charges, Charging, Bettering}
+use Rattle.table.proofs.Places.{gap, base-kept, blank-none, idle-nothing, own-inside, At, to-next, to-first, branches-here, codes-here}
+use Rattle.table.proofs.ByPrice.{join-row, join-same}
 use Rattle.table.specs.Table.{IsTaxon, start, Base, Ready, Done, Followed, TaxonRow, TaxonJoins, pushedFrom}
 
 -- one of two, as a number
@@ -95,7 +95,7 @@ module _ {o : List ℕ} {r after to w : ℕ} {l₀ : List ℕ} (ready : Ready o 
     most = to-next a .most;
     after-before = λ p. omega (arith, gap w r n (to-next a .later p), ready .after-before (a .positive));
     to-before = λ p. omega (arith, gap w r n (to-next a .later p));
-    to-above = omega arith;
+    to-above = omega (arith, gap w 0 r (a .positive));
     apart = inr (omega (arith, ready .after-before (a .positive)));
     room = record {
       most-diversity = d;
@@ -122,7 +122,7 @@ module _ {o : List ℕ} {r after to w : ℕ} {l₀ : List ℕ} (ready : Ready o 
     below₁ : (k : ℕ) → k < start w r + w → cell l₁ k ≡ cell l₀ k
     below₁ k h = h₁ .same k (λ p. omega (arith, gap w r n (to-next a .later p))) (λ p q. omega arith)
 
-    base₁ : Base o w l₁
+    pub base₁ : Base o w l₁
     base₁ = base-kept (ready .base) k₁ (λ b h. below₁ b (omega (arith, ready .to-before (a .positive), ready .to-above)))
 
     x₁ : (b : ℕ) → b < w → cell l₁ (after + b) ≡ x b
@@ -144,30 +144,25 @@ module _ {o : List ℕ} {r after to w : ℕ} {l₀ : List ℕ} (ready : Ready o 
       taxon : isTaxon o r ≡ true
       taxon = eq-eqb _ _ (sym (a .first-is) ∙ z)
 
-      pub is-taxon : IsTaxon o r
+      is-taxon : IsTaxon o r
       is-taxon = record { kept = a .base .kept; low = (a .positive); high = ready .most; taxon = taxon }
-
-      pub none-row₁ : Blank l₁ 0 w
-      none-row₁ = blank-none base₁ 0
 
       pub joins-taxon : TaxonJoins o r after rest to w l₁
       unfolding diversityOf costOf codeOf
       joins-taxon = record {
+        is = is-taxon;
+        narrow = base₁ .narrow;
         inside = omega (arith, ready .to-before (a .positive), own-inside (ready .base) (ready .most));
-        first-inside = omega (arith, ready .after-before (a .positive), own-inside (ready .base) (ready .most));
-        first-apart = ready .apart;
-        second-inside = rest-inside;
-        second-apart =
-            ⊎-elim (λ (e : rest ≡ 0). inr (omega (arith, ready .to-above)))
-            (λ (e : rest ≡ start w r + w). inl (omega (arith, ready .to-before (a .positive)))) rest-place;
-        second-blank = blank-none base₁ rest;
-        over = record {
-          inside = rest-inside;
-          aside =
+        beside = record {
+          first-inside = omega (arith, ready .after-before (a .positive), own-inside (ready .base) (ready .most));
+          first-apart = ready .apart;
+          first-idle = idle-nothing base₁ after;
+          second-inside = rest-inside;
+          second-apart =
               ⊎-elim (λ (e : rest ≡ 0). inr (omega (arith, ready .to-above)))
               (λ (e : rest ≡ start w r + w). inl (omega (arith, ready .to-before (a .positive)))) rest-place;
+          second-blank = blank-none base₁ rest;
         };
-        blank = blank-none base₁ rest;
         fits = λ i h.
             let s = follow-small i (omega arith) in
             let weigh : pick (isTaxon o r) (weight o r) 0 ≡ weight o r = rw taxon in
@@ -282,7 +277,7 @@ module _ {o : List ℕ} {r after to w : ℕ} {l₀ : List ℕ} (ready : Ready o 
         pub charges : Charges l₃ to (branch o r) (price o r) rest w
         charges = record {
           inside = omega (arith, ready .to-before (a .positive), own-inside (ready .base) (ready .most));
-          above = ready .to-above;
+          above = omega (arith, ready .to-above);
           over-inside = omega (arith, rest-inside);
           over-apart =
               ⊎-elim (λ (e : rest ≡ 0). inr (omega (arith, ready .to-above)))

@@ -29,7 +29,7 @@ use Rattle.table.proofs.Places.{gap, base-kept, blank-none, own-inside,
 use Rattle.table.proofs.Pushing.{picked, small-diversity, small-cost}
 use Rattle.table.proofs.Crossing.{cross-small}
 use Rattle.table.proofs.Spreading.{least-kept, shuffle}
-use Rattle.table.proofs.TaxonRows.{join-row, join-same}
+use Rattle.table.proofs.ByPrice.{join-row, join-same}
 
 -- no record
 module _ (o : List ℕ) (kept : Kept o) (b : ℕ) where
@@ -65,9 +65,6 @@ running-spread {o} {r} {above} {to} {w} {l} s h len = record {
   base =
       base-kept (s .running .base) len
       (λ b k. h .same b (λ p. omega (arith, s .to-before p, s .to-above)) (λ p q. omega (arith, s .to-above)) (λ q. omega arith));
-  nothing-row = λ b k.
-      h .same (w + b) (λ p. omega (arith, s .to-before p, s .to-above)) (λ p q. omega (arith, s .to-above)) (λ q. omega arith)
-      ∙ s .running .nothing-row b k;
   least = λ b k. rw (h .top b k) (least-kept _ _ (s .running .least b k));
 }
 

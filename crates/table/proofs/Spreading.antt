@@ -7,23 +7,23 @@ use mathlib.Core.List.{List}
 use native.Mathlib.Omega.{arith}
 use lib.Dec.{leb}
 use lib.ListN.{length}
-use borrow.Author.Tests.{le-ltb, ne-eqb}
+use borrow.Author.Tests.{le-leb, le-ltb, ne-eqb}
 use Rattle.lists.specs.Lists.{pick}
 use Rattle.outline.specs.Outline.{first, branch, price}
-use Rattle.laws.specs.Candidate.{Value, nothingWorth, heading, beats, Cand, none, some, betterOf, joinOf, oneAt}
+use Rattle.laws.specs.Candidate.{Value, nothingWorth, heading, beats, Cand, none, some, betterOf, joinOf, chargeOf, oneAt}
 use Rattle.laws.proofs.Order.{better-none, better-comm, better-assoc}
 use Rattle.laws.proofs.Best.{From, this, from-better}
-use Rattle.laws.proofs.Weights.{weight-limit}
 use Rattle.rows.specs.Rows.{Row, betterRow, joinRow}
 use Rattle.rows.proofs.Bounds.{Small}
-use Rattle.rows.proofs.Joins.{join-none, join-at, join-alone, join-nothing}
+use Rattle.rows.proofs.Joins.{join-none, join-at, join-nothing}
 use Rattle.table.specs.Cells.{cell, diversityOf, costOf, codeOf}
-use Rattle.table.specs.Memory.{rowAt, Blank, Reads, Betters, Bettering, ChargesFrom, ChargingFrom}
-use Rattle.table.specs.Table.{IsTaxon, taxonWorth, Base, TaxonRow, TaxonJoins, ByTaxon, ByTaxonJoins}
+use Rattle.table.specs.Memory.{rowAt, Written, joinFrom, BetteringBy, Betters, Bettering, ChargesFrom, ChargingFrom, Joins, Joining}
+use Rattle.table.specs.Table.{IsTaxon, mostAbove, taxonWorth, TerminalFilled, Finished, TaxonJoins, TaxonRow, Base}
 use Rattle.table.specs.Spread.{Running, Bettered, Pairable, TaxonSpreadable, TaxonSpread, Tops, Meets, Met, BySingle, ByPairs, ByRow}
-use Rattle.table.proofs.Places.{base-kept, blank-none, front-inside}
+use Rattle.table.proofs.Places.{base-kept, blank-none, idle-nothing, front-inside}
 use Rattle.table.proofs.Pushing.{small-diversity, small-cost, small-code}
-use Rattle.table.proofs.TaxonRows.{le-or-lt, join-below, join-same, join-row}
+use Rattle.table.proofs.ByPrice.{le-or-lt, join-below, join-same, join-row}
+use Rattle.table.proofs.Terminal.{taxon, terminal-from, charged-taxon, charged-there}
 
 -- ---- candidates
 -- what is nothing or better stays so
@@ -45,193 +45,227 @@ pub shuffle : (t n s c : Cand) → betterOf (betterOf (betterOf t n) s) c ≡ be
 shuffle t n s c =
     ap (λ x. betterOf x c) (better-assoc t n s ∙ ap (betterOf t) (better-comm n s)) ∙ better-assoc t _ c
 
--- ---- the running optimum, and taxon r
-module _ {o : List ℕ} {w : ℕ} {l : List ℕ} (running : Running o w l) where
-  over : Reads l (2 * w) (2 * w) w
-  over = record { inside = omega (arith, front-inside (running .base)); aside = inl (omega arith) }
+-- ---- taxon r alone
+module _ {o : List ℕ} {w : ℕ} {l : List ℕ} (running : Running o w l) (r above : ℕ) where
+  abbrev single : Value
+  single = taxonWorth o r 0 (above + price o r)
 
-  not-zero : Blank l (2 * w) w
-  not-zero e = absurd (omega (arith, running .base .wide))
-
-  -- bettering the running optimum leaves the rest as it was
-  running-kept : {x : Row} {m : List ℕ} → Bettered w x l m → length m ≡ length l → Running o w m
-  running-kept h len = record {
-    base = base-kept (running .base) len (λ b k. h .same b (λ q. omega arith));
-    nothing-row = λ b k. h .same (w + b) (λ q. omega arith) ∙ running .nothing-row b k;
-    least = λ b k. rw (h .top b k) (least-kept _ _ (running .least b k));
+  pub bettered-single : above + price o r ≡ 0 → {m : List ℕ} → BetteringBy (2 * w) (some (taxonWorth o r 0 0)) w l m → BySingle o r above w l m
+  unfolding oneAt
+  bettered-single z v = record {
+    top = λ b h. rw (z, le-leb 0 b (omega arith)) (v .row b (omega arith) h);
+    same = λ k g. v .same k (λ q. omega (arith, g (omega arith)));
   }
 
-  -- the taxon alone
-  module _ {r : ℕ} (is : IsTaxon o r) (cost : ℕ) where
-    abbrev single : Value
-    single = taxonWorth o r 0 cost
-
-    pub joins-single : ByTaxonJoins o r 0 cost w (2 * w) w l
-    unfolding betterOf diversityOf costOf codeOf
-    joins-single = record {
-      inside = omega (arith, front-inside (running .base));
-      first-inside = omega (arith, front-inside (running .base));
-      first-apart = inr (omega arith);
-      second-inside = omega (arith, front-inside (running .base));
-      second-apart = inr (omega arith);
-      second-blank = blank-none (running .base) 0;
-      over = over;
-      blank = not-zero;
-      fits = λ i h.
-          rw (running .nothing-row i (omega arith), blank-none (running .base) 0 refl i (omega arith))
-          (record {
-            diversity-fits = omega arith;
-            cost-fits = omega (arith, running .base .narrow);
-            code-fits = omega (arith, weight-limit o (is .kept) r (is .low) (is .high) (is .taxon));
-          });
-    }
-
-    pub bettered-single : {m : List ℕ} → ByTaxon o r 0 cost w (2 * w) w l m → BySingle o r cost w l m
-    bettered-single v = record {
-      top = λ b h.
-          v .row b (omega arith) h
-          ∙ ap (λ c. betterOf c (cell l (2 * w + b)))
-          (join-at single (rowAt l w) (λ i. some nothingWorth) b (running .nothing-row (b - cost) (omega arith)) ∙ join-alone single b)
-          ∙ better-comm _ _;
-      same = λ k g. v .same k (λ q. omega (arith, g (omega arith)));
-    }
-
-    pub bettered-dear : (cost ≡ 0 → ⊥) → BySingle o r cost w l l
-    bettered-dear n = record {
-      top = λ b h.
-          let e = running .least b h in
-          sym e ∙ ap (betterOf (cell l (2 * w + b))) (sym (nothing-better single b refl n)) ∙ sym (better-assoc _ _ _)
-          ∙ ap (λ c. betterOf c (oneAt single b)) e;
-      same = λ k g. refl;
-    }
-
--- ---- the taxon with something of the rest of its chain
-module _ {o : List ℕ} {r rest w : ℕ} {l : List ℕ} (s : Pairable o r rest w l) where
-  abbrev base : Base o w l
-  base = s .running .base
-
-  module _ (cost : ℕ) (n : rest ≡ 0 → ⊥) where
-    beyond : 3 * w ≤ rest
-    beyond = ⊎-elim (λ e. absurd (n e)) (λ h. h) (s .rest-place)
-
-    pub joins-pairs : ByTaxonJoins o r (branch o r) cost rest (2 * w) w l
-    unfolding diversityOf costOf codeOf
-    joins-pairs = record {
-      inside = omega (arith, front-inside base);
-      first-inside = s .rest-inside;
-      first-apart = inl (omega (arith, beyond));
-      second-inside = omega (arith, front-inside base);
-      second-apart = inr (omega arith);
-      second-blank = blank-none base 0;
-      over = over (s .running);
-      blank = not-zero (s .running);
-      fits = λ i h.
-          let small = s .small i (omega arith) in
-          rw (blank-none base 0 refl i (omega arith), better-none (cell l (rest + i)))
-          (record {
-            diversity-fits = omega (arith, small-diversity small, s .diversity-fits);
-            cost-fits = omega (arith, small-cost small, base .narrow);
-            code-fits = omega (arith, small-code small, s .code-fits);
-          });
-    }
-
-    pub bettered-pairs : {m : List ℕ} → ByTaxon o r (branch o r) cost rest (2 * w) w l m → ByPairs o r rest cost w l m
-    bettered-pairs v = record {
-      top = λ b h. v .row b (omega arith) h ∙ better-comm _ _;
-      same = λ k g. v .same k (λ q. omega (arith, g (omega arith)));
-    }
-
-  pub bettered-none : (cost : ℕ) → rest ≡ 0 → ByPairs o r rest cost w l l
-  unfolding joinRow
-  bettered-none cost e = record {
+  pub bettered-dear : (above + price o r ≡ 0 → ⊥) → BySingle o r above w l l
+  bettered-dear n = record {
     top = λ b h.
-        let none-left = blank-none base rest e (b - cost) (omega arith) in
-        sym (ap (betterOf (cell l (2 * w + b))) (ap (joinOf (oneAt (taxonWorth o r (branch o r) cost) b)) none-left ∙ join-none _) ∙ better-none _);
+        let e = running .least b h in
+        sym e ∙ ap (betterOf (cell l (2 * w + b))) (sym (nothing-better single b refl n)) ∙ sym (better-assoc _ _ _)
+        ∙ ap (λ c. betterOf c (oneAt single b)) e;
     same = λ k g. refl;
   }
 
-  module _ {x : Row} {m : List ℕ} (h : Bettered w x l m) (len : length m ≡ length l) where
-    rest-same : (b : ℕ) → b < w → cell m (rest + b) ≡ cell l (rest + b)
-    rest-same b k =
-        h .same (rest + b)
-        (⊎-elim (λ (e : rest ≡ 0). λ q. omega arith) (λ (e : 3 * w ≤ rest). λ q. omega arith) (s .rest-place))
-
-    pub pairable-kept : Pairable o r rest w m
-    pairable-kept = record {
-      running = running-kept (s .running) h len;
-      is = s .is;
-      rest-place = s .rest-place;
-      rest-inside = omega (arith, s .rest-inside);
-      most-diversity = s .most-diversity;
-      most-code = s .most-code;
-      small = λ b k. rw (rest-same b k) (s .small b k);
-      diversity-fits = s .diversity-fits;
-      code-fits = s .code-fits;
-    }
-
--- ---- the taxon's rooted row
+-- ---- the taxon with something of the rest of its chain
 module _ {o : List ℕ} {r rest above to w : ℕ} {l : List ℕ} (s : TaxonSpreadable o r rest above to w l) where
   abbrev pairs : Pairable o r rest w l
   pairs = s .pairs
 
-  rest-apart : (to + w ≤ rest) ⊎ (rest + w ≤ to)
-  rest-apart = ⊎-elim (λ (e : rest ≡ 0). inr (omega (arith, s .to-above, pairs .running .base .wide))) inl (s .to-before)
+  abbrev base : Base o w l
+  base = pairs .running .base
 
-  pub joins-rooted : TaxonJoins o r w rest to w l
+  -- the taxon below the groups above
+  abbrev pair : Value
+  pair = taxonWorth o r (branch o r) (above + price o r)
+
+  module _ (f : Finished o r to w l) (n : rest ≡ 0 → ⊥) {cost : ℕ} (e : cost ≡ above + price o r) where
+    beyond : 3 * w ≤ rest
+    beyond = ⊎-elim (λ z. absurd (n z)) (λ h. h) (pairs .rest-place)
+
+    own-is : (b : ℕ) → cost ≤ b → b < w → cell l (to + b) ≡ some (taxon o r)
+    own-is b q h = f b h ∙ terminal-from o r b (omega arith)
+
+    alone : (i : ℕ) → i < w → betterOf (cell l (rest + i)) (cell l (0 + i)) ≡ cell l (rest + i)
+    alone i h = ap (betterOf (cell l (rest + i))) (blank-none base 0 refl i h) ∙ better-none _
+
+    pub joins-pairs : Joins l (2 * w) to above cost rest 0 (2 * w) w
+    unfolding diversityOf costOf codeOf
+    joins-pairs = record {
+      inside = omega (arith, front-inside base);
+      taken = record { inside = s .to-inside; aside = inl (omega (arith, s .to-above)) };
+      beside = record {
+        first-inside = pairs .rest-inside;
+        first-apart = inl (omega (arith, beyond));
+        first-idle = λ z. absurd (omega (arith, beyond, base .wide));
+        second-inside = omega (arith, front-inside base);
+        second-apart = inr (omega arith);
+        second-blank = blank-none base 0;
+      };
+      over = record { inside = omega (arith, front-inside base); aside = inl (omega arith) };
+      over-blank = λ z. absurd (omega (arith, base .wide));
+      there = λ b q h. rw (own-is b q h) (charged-there o r above);
+      charge-fits = λ b q h.
+          rw (own-is b q h)
+          (record { diversity-fits = omega (arith, pairs .diversity-fits); cost-fits = omega (arith, base .narrow) });
+      join-fits = λ b q h.
+          let small = pairs .small (b - cost) (omega arith) in
+          rw (own-is b q h, charged-taxon o r above, alone (b - cost) (omega arith))
+          (record {
+            diversity-fits = omega (arith, small-diversity small, pairs .diversity-fits);
+            cost-fits = omega (arith, small-cost small, base .narrow);
+            code-fits = omega (arith, small-code small, pairs .code-fits);
+          });
+    }
+
+    pub bettered-pairs : {m : List ℕ} → Joining (2 * w) to above cost rest 0 (2 * w) w l m → ByPairs o r rest above w l m
+    unfolding betterOf
+    bettered-pairs {m} v = record {
+      top = λ b h. ⊎-elim (from-cost b h) (below b) (le-or-lt cost b) ∙ better-comm (joinRow pair (rowAt l rest) b) (cell l (2 * w + b));
+      same = λ k g. v .same k (λ q. omega (arith, g (omega arith)));
+    }
+      where
+        joined : (b : ℕ) → joinFrom (some pair) cost (rowAt l rest) b ≡ joinRow pair (rowAt l rest) b
+        joined b = rw e (join-row pair (rowAt l rest) b)
+
+        from-cost : (b : ℕ) → b < w → cost ≤ b → cell m (2 * w + b) ≡ betterOf (joinRow pair (rowAt l rest) b) (cell l (2 * w + b))
+        from-cost b h q =
+            v .row b q h
+            ∙ ap (λ c. betterOf c (cell l (2 * w + b)))
+            (ap (λ c. joinFrom c cost (betterRow (rowAt l rest) (rowAt l 0)) b) (ap (λ c. chargeOf c 0 above) (own-is b q h) ∙ charged-taxon o r above)
+            ∙ join-same _ _ _ (rowAt l rest) b (alone (b - cost) (omega arith)) ∙ joined b)
+
+        below : (b : ℕ) → b < cost → cell m (2 * w + b) ≡ betterOf (joinRow pair (rowAt l rest) b) (cell l (2 * w + b))
+        below b q =
+            v .same (2 * w + b) (λ g. omega arith)
+            ∙ ap (λ c. betterOf c (cell l (2 * w + b))) (sym (join-below (some pair) cost (rowAt l rest) b q) ∙ joined b)
+
+  pub bettered-none : rest ≡ 0 → ByPairs o r rest above w l l
+  unfolding joinRow
+  bettered-none e = record {
+    top = λ b h.
+        let none-left = blank-none base rest e (b - (above + price o r)) (omega arith) in
+        sym (ap (betterOf (cell l (2 * w + b))) (ap (joinOf (oneAt pair b)) none-left ∙ join-none _) ∙ better-none _);
+    same = λ k g. refl;
+  }
+
+  -- ---- the taxon's rooted row
+  rest-apart : (to + w ≤ rest) ⊎ (rest + w ≤ to)
+  rest-apart = ⊎-elim (λ (e : rest ≡ 0). inr (omega (arith, s .to-above, base .wide))) inl (s .to-before)
+
+  joins-rooted : TaxonJoins o r w rest to w l
   unfolding diversityOf costOf codeOf
   joins-rooted = record {
+    is = pairs .is;
+    narrow = base .narrow;
     inside = s .to-inside;
-    first-inside = omega (arith, front-inside (pairs .running .base));
-    first-apart = inr (omega (arith, s .to-above));
-    second-inside = pairs .rest-inside;
-    second-apart = rest-apart;
-    second-blank = blank-none (pairs .running .base) rest;
-    over = record { inside = pairs .rest-inside; aside = ⊎-elim (λ p. inl (omega arith)) inr rest-apart };
-    blank = blank-none (pairs .running .base) rest;
+    beside = record {
+      first-inside = omega (arith, front-inside base);
+      first-apart = inr (omega (arith, s .to-above));
+      first-idle = idle-nothing base w;
+      second-inside = pairs .rest-inside;
+      second-apart = rest-apart;
+      second-blank = blank-none base rest;
+    };
     fits = λ i h.
         let zero : From (Small (pairs .most-diversity) (pairs .most-code)) i (some nothingWorth) =
         this {v = nothingWorth} (record { diversity-most = omega arith; code-most = omega arith }) (omega arith) in
         let small = from-better zero (pairs .small i (omega arith)) in
-        rw (pairs .running .nothing-row i (omega arith))
+        rw (base .nothing-row i (omega arith))
         (record {
           diversity-fits = omega (arith, small-diversity small, pairs .diversity-fits);
-          cost-fits = omega (arith, small-cost small, pairs .running .base .narrow);
+          cost-fits = omega (arith, small-cost small, base .narrow);
           code-fits = omega (arith, small-code small, pairs .code-fits);
         });
   }
 
--- the running optimum bettered twice, then the rooted row
-module _ {o : List ℕ} {r rest above to w : ℕ} {l₀ l₁ l₂ : List ℕ} (s : TaxonSpreadable o r rest above to w l₀) (cost : ℕ)
-    (h₁ : BySingle o r cost w l₀ l₁) (k₁ : length l₁ ≡ length l₀) (h₂ : ByPairs o r rest cost w l₁ l₂) (k₂ : length l₂ ≡ length l₁) where
-  pairs₁ : Pairable o r rest w l₁
-  pairs₁ = pairable-kept (s .pairs) h₁ k₁
+  -- ---- the row at `to` and the running optimum may change
+  module _ (m : List ℕ) (len : length m ≡ length l)
+      (same : (k : ℕ) → (to ≤ k → to + w ≤ k) → (2 * w ≤ k → 3 * w ≤ k) → cell m k ≡ cell l k) where
+    rest-same : (b : ℕ) → b < w → cell m (rest + b) ≡ cell l (rest + b)
+    rest-same b h =
+        ⊎-elim
+        (λ (e : rest ≡ 0). same (rest + b) (λ q. omega (arith, s .to-above)) (λ q. omega arith))
+        (λ (e : 3 * w ≤ rest). same (rest + b) (⊎-elim (λ p q. omega arith) (λ p q. omega arith) rest-apart) (λ q. omega arith))
+        (pairs .rest-place)
 
-  pub spreadable-kept : TaxonSpreadable o r rest above to w l₂
-  spreadable-kept = record {
-    pairs = pairable-kept pairs₁ h₂ k₂;
-    above-most = s .above-most;
-    to-above = s .to-above;
-    to-inside = omega (arith, s .to-inside);
-    to-before = s .to-before;
-  }
+    spreadable-kept : ((b : ℕ) → b < w → betterOf (cell m (2 * w + b)) (some nothingWorth) ≡ cell m (2 * w + b))
+        → TaxonSpreadable o r rest above to w m
+    spreadable-kept least = record {
+      pairs = record {
+        running = record { base = base-kept base len (λ k h. same k (λ q. omega (arith, s .to-above)) (λ q. omega arith)); least = least };
+        is = pairs .is;
+        rest-place = pairs .rest-place;
+        rest-inside = omega (arith, pairs .rest-inside);
+        most-diversity = pairs .most-diversity;
+        most-code = pairs .most-code;
+        small = λ b h. rw (rest-same b h) (pairs .small b h);
+        diversity-fits = pairs .diversity-fits;
+        code-fits = pairs .code-fits;
+      };
+      above-most = s .above-most;
+      to-above = s .to-above;
+      to-inside = omega (arith, s .to-inside);
+      to-before = s .to-before;
+    }
 
-  rest₂ : (b : ℕ) → b < w → cell l₂ (rest + b) ≡ cell l₀ (rest + b)
-  rest₂ b k = rest-same pairs₁ h₂ k₂ b k ∙ rest-same (s .pairs) h₁ k₁ b k
+  -- the row at `to` alone
+  spreadable-filled : {x : Row} {m : List ℕ} → Written to 0 w x l m → length m ≡ length l → TaxonSpreadable o r rest above to w m
+  spreadable-filled v len =
+      spreadable-kept _ len (λ k p q. v .same k (λ g. p (omega arith)))
+      (λ b h. rw (v .same (2 * w + b) (λ q. omega (arith, s .to-above))) (pairs .running .least b h))
 
-  pub taxon-spread : cost ≡ above + price o r → {l₃ : List ℕ} → TaxonRow o r w rest to w l₂ l₃ → TaxonSpread o r rest above to w l₀ l₃
-  taxon-spread e v = record {
-    row = λ b k.
-        v .row b (omega arith) k
-        ∙ ap₂ betterOf
-        (join-same _ _ _ (betterRow (λ i. some nothingWorth) (rowAt l₀ rest)) b
-        (ap₂ betterOf (spreadable-kept .pairs .running .nothing-row (b - price o r) (omega arith)) (rest₂ (b - price o r) (omega arith))))
-        (rest₂ b k);
-    top = λ b k.
-        rw (sym e)
-        (v .same (2 * w + b) (λ q. omega (arith, s .to-above)) ∙ h₂ .top b k
-        ∙ ap₂ betterOf (h₁ .top b k) (join-at _ _ (rowAt l₀ rest) b (rest-same (s .pairs) h₁ k₁ (b - cost) (omega arith))));
-    same = λ k p q. v .same k (λ g. p (omega arith)) ∙ h₂ .same k q ∙ h₁ .same k q;
-  }
+  -- the running optimum alone
+  module _ {x : Row} {m : List ℕ} (v : Bettered w x l m) where
+    spreadable-bettered : length m ≡ length l → TaxonSpreadable o r rest above to w m
+    spreadable-bettered len =
+        spreadable-kept _ len (λ k p q. v .same k q) (λ b h. rw (v .top b h) (least-kept _ _ (pairs .running .least b h)))
+
+    finished-bettered : Finished o r to w l → Finished o r to w m
+    finished-bettered f b h = v .same (to + b) (λ q. omega (arith, s .to-above)) ∙ f b h
+
+-- the taxon's row by itself, the running optimum bettered twice, and the row joined: what each call asks, and what is left
+module _ {o : List ℕ} {r rest above to w : ℕ} {l₀ l₁ : List ℕ} (s : TaxonSpreadable o r rest above to w l₀)
+    (h₁ : TerminalFilled o r to w l₀ l₁) (k₁ : length l₁ ≡ length l₀) where
+  s₁ : TaxonSpreadable o r rest above to w l₁
+  s₁ = spreadable-filled s (h₁ .written) k₁
+
+  pub single-asks : (Running o w l₁ × IsTaxon o r) × (above ≤ mostAbove)
+  single-asks = ((s₁ .pairs .running, s₁ .pairs .is), s₁ .above-most)
+
+  module _ {l₂ : List ℕ} (h₂ : BySingle o r above w l₁ l₂) (k₂ : length l₂ ≡ length l₁) where
+    pub pairs-ask : TaxonSpreadable o r rest above to w l₂ × Finished o r to w l₂
+    pairs-ask = (spreadable-bettered s₁ h₂ k₂, finished-bettered s₁ h₂ (λ b h. h₁ .written .row b (omega arith) h))
+
+    same₂ : (k : ℕ) → (to ≤ k → to + w ≤ k) → (2 * w ≤ k → 3 * w ≤ k) → cell l₂ k ≡ cell l₀ k
+    same₂ k p q = h₂ .same k q ∙ h₁ .written .same k (λ g. p (omega arith))
+
+    module _ {l₃ : List ℕ} (h₃ : ByPairs o r rest above w l₂ l₃) (k₃ : length l₃ ≡ length l₂) where
+      s₃ : TaxonSpreadable o r rest above to w l₃
+      s₃ = spreadable-bettered (pairs-ask .0) h₃ k₃
+
+      pub join-asks : Finished o r to w l₃ × TaxonJoins o r w rest to w l₃
+      join-asks = (finished-bettered (pairs-ask .0) h₃ (pairs-ask .1), joins-rooted s₃)
+
+      same₃ : (k : ℕ) → (to ≤ k → to + w ≤ k) → (2 * w ≤ k → 3 * w ≤ k) → cell l₃ k ≡ cell l₀ k
+      same₃ k p q = h₃ .same k q ∙ same₂ k p q
+
+      pub taxon-spread : {l₄ : List ℕ} → TaxonRow o r w rest to w l₃ l₄ → TaxonSpread o r rest above to w l₀ l₄
+      taxon-spread v = record {
+        row = λ b k.
+            v .row b (omega arith) k
+            ∙ ap₂ betterOf
+            (join-same _ _ _ (betterRow (λ i. some nothingWorth) (rowAt l₀ rest)) b
+            (ap₂ betterOf (s₃ .pairs .running .base .nothing-row (b - price o r) (omega arith))
+            (rest-same s l₃ (k₃ ∙ k₂ ∙ k₁) same₃ (b - price o r) (omega arith))))
+            (rest-same s l₃ (k₃ ∙ k₂ ∙ k₁) same₃ b k);
+        top = λ b k.
+            v .same (2 * w + b) (λ q. omega (arith, s .to-above)) ∙ h₃ .top b k
+            ∙ ap₂ betterOf
+            (h₂ .top b k
+            ∙ ap (λ c. betterOf c (oneAt (taxonWorth o r 0 (above + price o r)) b)) (h₁ .written .same (2 * w + b) (λ q. omega (arith, s .to-above))))
+            (join-at _ _ (rowAt l₀ rest) b (rest-same s l₂ (k₂ ∙ k₁) same₂ (b - (above + price o r)) (omega arith)));
+        same = λ k p q. v .same k (λ g. p (omega arith)) ∙ same₃ k p q;
+      }
 
 -- ---- the running optimum bettered by the row at `to`, moved right by what is above it
 module _ {to above w : ℕ} {l : List ℕ} (s : Tops l to above w) where

@@ -36,7 +36,7 @@ module _ {o : List ℕ} {w : ℕ} {l₀ : List ℕ} (s : Fillable o w l₀) wher
     nothing₂ b h = h₂ .row b (omega arith) h
 
     base₂ : Base o w l₂
-    base₂ = record { kept = s .kept; wide = s .wide; narrow = s .narrow; long = omega (arith, table-inside); none-row = none₂ }
+    base₂ = record { kept = s .kept; wide = s .wide; narrow = s .narrow; long = omega (arith, table-inside); none-row = none₂; nothing-row = nothing₂ }
 
     -- rooted
     pub ready-root : Ready o 1 w (2 * w) w l₂
@@ -83,7 +83,6 @@ module _ {o : List ℕ} {w : ℕ} {l₀ : List ℕ} (s : Fillable o w l₀) wher
       spreadable-root = record {
         running = record {
           base = base-kept base₂ k₃ (λ b h. h₃ .same b (λ q. omega arith));
-          nothing-row = λ b h. h₃ .same (w + b) (λ q. omega arith) ∙ nothing₂ b h;
           least = λ b h. rw (h₃ .row b (omega arith) h) (better-same _);
         };
         most = s .kept .linked .filled;

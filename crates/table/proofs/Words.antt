@@ -1,6 +1,6 @@
 -- A candidate's two words: which of two is better, two joined, one charged with a heading.
 use Prim.Native.Nat.{ℕ, _+_, _*_, _-_, _/_, _%_, _^_, _<_, _≤_}
-use mathlib.Core.Path.{_≡_, refl, ap, _∙_}
+use mathlib.Core.Path.{_≡_, refl, sym, ap, _∙_}
 use mathlib.Core.Logic.{_≢_, inl, inr, ⊎-elim}
 use mathlib.Core.Bool.{Bool, true, false, _||_, _&&_}
 use native.Mathlib.Omega.{arith}
@@ -8,7 +8,7 @@ use native.Mathlib.Nat.{eq-or-lt-of-le}
 use lib.Dec.{eqb, ltb}
 use borrow.Author.Tests.{lt-ltb, le-ltb, eq-eqb, ne-eqb, eqb-true, eqb-false, ltb-true, ltb-false}
 use Rattle.lists.specs.Lists.{pick}
-use Rattle.laws.specs.Candidate.{Value, plus, heading, none, some, beats, betterOf, joinOf, chargeOf}
+use Rattle.laws.specs.Candidate.{Value, plus, nothingWorth, heading, none, some, beats, betterOf, joinOf, chargeOf}
 use Rattle.laws.proofs.Order.{Beats, more, cheaper, earlier, AtLeast, value-path, beats-true, beats-false}
 use Rattle.table.specs.Cells.{unit, seen, diversityOf, costOf, codeOf, Joinable, Chargeable}
 
@@ -23,6 +23,9 @@ seen-none s m e = rw (eq-eqb s 0 e)
 seen-some : (s m : ℕ) → (s ≡ 0 → ⊥) → seen s m ≡ some (valueOf s m)
 unfolding seen
 seen-some s m n = rw (ne-eqb s 0 n)
+
+pub none-some : {v : Value} → none ≡ some v → ⊥
+none-some e = let z : _≡_ {A = ℕ} 0 1 = cc in omega arith
 
 -- the second of two scores and sets wins
 abbrev wins : ℕ → ℕ → ℕ → ℕ → Bool
@@ -91,10 +94,6 @@ module _ (s m t n : ℕ) where
   no-greater-score d h = first-better (rw (le-ltb s t h, ne-eqb s t d))
 
   -- two joined
-  pub join-first-none : s ≡ 0 → seen s m ≡ joinOf (seen s m) (seen t n)
-  unfolding joinOf
-  join-first-none e = rw (seen-none s m e)
-
   pub join-second-none : (s ≡ 0 → ⊥) → t ≡ 0 → seen t n ≡ joinOf (seen s m) (seen t n)
   unfolding joinOf
   join-second-none h e = rw (seen-some s m h, seen-none t n e)
@@ -117,6 +116,16 @@ module _ (s m t n : ℕ) where
         let q = join-quotient (s - 1) (t - 1) (joinable-words .cost-fits) in
         let e : s + t - unit ≡ (s - 1) + (t - 1) + 2 - unit = omega arith in
         ap (λ x. seen x (m + n)) e ∙ seen-some _ _ (q .0) ∙ ap some (value-path (q .1) (q .2) refl) ∙ rw (seen-some s m h, seen-some t n k)
+
+-- nothing chosen, in words
+pub nothing-words : (s m : ℕ) → seen s m ≡ some nothingWorth → (s ≡ unit) × (m ≡ 0)
+unfolding diversityOf costOf codeOf
+nothing-words s m e =
+    let there : s ≡ 0 → ⊥ = λ z. none-some (sym (seen-none s m z) ∙ e) in
+    let words : some (valueOf s m) ≡ some nothingWorth = sym (seen-some s m there) ∙ e in
+    let d : (s - 1) / unit ≡ 0 = ap diversityOf words in
+    let c : unit - 1 - (s - 1) % unit ≡ 0 = ap costOf words in
+    (omega arith, ap codeOf words)
 
 -- one charged
 module _ (s m b p : ℕ) where

@@ -6,7 +6,7 @@ use mathlib.Core.List.{List}
 use lib.Dec.{leb}
 use lib.ListN.{length}
 use Rattle.lists.specs.Lists.{pick}
-use Rattle.laws.specs.Candidate.{heading, Cand, none, some, betterOf, joinOf}
+use Rattle.laws.specs.Candidate.{nothingWorth, heading, Cand, none, some, betterOf, joinOf, chargeOf}
 use Rattle.rows.specs.Rows.{Row, betterRow}
 use Rattle.table.specs.Cells.{cell, Joinable, Chargeable}
 
@@ -27,6 +27,10 @@ pub record Written (to lo hi : ℕ) (x : Row) (l m : List ℕ) : Type 0 where
 -- the row at a, if it is the one at cell 0, has no set in any column
 abbrev pub Blank : List ℕ → ℕ → ℕ → Type 0
 Blank l a w = a ≡ 0 → (b : ℕ) → b < w → cell l (a + b) ≡ none
+
+-- the row at a, if it is the one at w, has nothing chosen in any column
+abbrev pub Idle : List ℕ → ℕ → ℕ → Type 0
+Idle l a w = a ≡ w → (b : ℕ) → b < w → cell l (a + b) ≡ some nothingWorth
 
 -- l has a row of w columns at a, which is not overtaken while the row at `to` is written from left to right
 pub record Reads (l : List ℕ) (to a w : ℕ) : Type 0 where
@@ -52,8 +56,12 @@ joinOver c price x y z b = betterOf (joinFrom c price (betterRow x y) b) (z b)
 abbrev pub chargeOver : Row → ℕ → ℕ → Row → Row
 chargeOver x branch price y b = betterOf (joinFrom (some (heading branch price)) price x b) (y b)
 
--- the ways to write a row: the better of two; one below a heading or else another, from the price of the heading on, or all of it
--- in place; and one candidate joined with the better of two or else a third
+-- the ways to write a row: bettered by one candidate; the better of two; one below a heading or else another, from the price of
+-- the heading on, or all of it in place; and one below groups that cost `above`, joined with the better of two or else a third,
+-- from a cost on
+abbrev pub BetteringBy : ℕ → Cand → ℕ → List ℕ → List ℕ → Type 0
+BetteringBy to c w l m = Written to 0 w (λ b. betterOf (cell l (to + b)) c) l m
+
 abbrev pub Bettering : ℕ → ℕ → ℕ → ℕ → List ℕ → List ℕ → Type 0
 Bettering to x y w l m = Written to 0 w (betterRow (rowAt l x) (rowAt l y)) l m
 
@@ -63,8 +71,9 @@ ChargingFrom to x branch price y w l m = Written to price w (chargeOver (rowAt l
 abbrev pub Charging : ℕ → ℕ → ℕ → ℕ → ℕ → List ℕ → List ℕ → Type 0
 Charging to branch price y w l m = Written to 0 w (chargeOver (rowAt l to) branch price (rowAt l y)) l m
 
-abbrev pub Joining : ℕ → Cand → ℕ → ℕ → ℕ → ℕ → ℕ → List ℕ → List ℕ → Type 0
-Joining to c price x y z w l m = Written to price w (joinOver c price (rowAt l x) (rowAt l y) (rowAt l z)) l m
+abbrev pub Joining : ℕ → ℕ → ℕ → ℕ → ℕ → ℕ → ℕ → ℕ → List ℕ → List ℕ → Type 0
+Joining to own above cost x y z w l m =
+    Written to cost w (λ b. joinOver (chargeOf (cell l (own + b)) 0 above) cost (rowAt l x) (rowAt l y) (rowAt l z) b) l m
 
 -- l has a row of w columns at a, which is not overtaken while the row at `to` is written from right to left
 pub record ReadsBack (l : List ℕ) (to a w : ℕ) : Type 0 where
@@ -89,14 +98,37 @@ pub record Charges (l : List ℕ) (to branch price b w : ℕ) : Type 0 where
   pub none-row : Blank l 0 w
   pub fits : (i : ℕ) → i + price < w → Chargeable (cell l (to + i)) branch price
 
--- what joining a candidate with the rows at x and y asks, which stand apart from the row that is written
-pub record Joins (l : List ℕ) (to : ℕ) (c : Cand) (price x y z w : ℕ) : Type 0 where
-  pub inside : 2 * (to + w) ≤ length l
+-- two rows of w columns beside the one at `to`, apart from it: the first may be that of nothing chosen, the second that of no set
+pub record Beside (l : List ℕ) (to x y w : ℕ) : Type 0 where
   pub first-inside : 2 * (x + w) ≤ length l
   pub first-apart : (to + w ≤ x) ⊎ (x + w ≤ to)
+  pub first-idle : Idle l x w
   pub second-inside : 2 * (y + w) ≤ length l
   pub second-apart : (to + w ≤ y) ⊎ (y + w ≤ to)
   pub second-blank : Blank l y w
+
+-- what reading column b of two rows asks
+pub record Follows (l : List ℕ) (x y b w : ℕ) : Type 0 where
+  pub first-inside : 2 * (x + b) + 1 < length l
+  pub idle : x ≡ w → cell l (x + b) ≡ some nothingWorth
+  pub second-inside : 2 * (y + b) + 1 < length l
+  pub blank : y ≡ 0 → cell l (y + b) ≡ none
+
+-- what joining the row at `own`, below groups that cost `above`, with the rows at x and y asks
+pub record Joins (l : List ℕ) (to own above cost x y z w : ℕ) : Type 0 where
+  pub inside : 2 * (to + w) ≤ length l
+  pub taken : Reads l to own w
+  pub beside : Beside l to x y w
   pub over : Reads l to z w
-  pub blank : Blank l z w
-  pub fits : (i : ℕ) → i + price < w → Joinable c (betterOf (cell l (x + i)) (cell l (y + i)))
+  pub over-blank : Blank l z w
+  pub there : (b : ℕ) → cost ≤ b → b < w → chargeOf (cell l (own + b)) 0 above ≢ none
+  pub charge-fits : (b : ℕ) → cost ≤ b → b < w → Chargeable (cell l (own + b)) 0 above
+  pub join-fits : (b : ℕ) → cost ≤ b → b < w
+      → Joinable (chargeOf (cell l (own + b)) 0 above) (betterOf (cell l (x + (b - cost))) (cell l (y + (b - cost))))
+
+-- what adding a row to one of nothing chosen asks
+pub record Adds (l : List ℕ) (to y w : ℕ) : Type 0 where
+  pub inside : 2 * (to + w) ≤ length l
+  pub nothing : (b : ℕ) → b < w → cell l (to + b) ≡ some nothingWorth
+  pub other : Reads l to y w
+  pub blank : Blank l y w

@@ -13,13 +13,12 @@ use Rattle.laws.proofs.Best.{From}
 use Rattle.rows.specs.Rows.{Row, joinRow}
 use Rattle.rows.proofs.Bounds.{Small, prices}
 use Rattle.table.specs.Cells.{cell, Chargeable}
-use Rattle.table.specs.Memory.{rowAt, joinOver}
-use Rattle.table.specs.Table.{IsTaxon, mostAbove, taxonWorth, start, Base, rootedFrom, acrossFrom, aloneFrom, crossFrom}
+use Rattle.table.specs.Memory.{rowAt}
+use Rattle.table.specs.Table.{IsTaxon, mostAbove, taxonWorth, taxonOver, start, Base, rootedFrom, acrossFrom, aloneFrom, crossFrom}
 
 -- the rows before the records': that of no set, that of nothing chosen, and the running optimum, which is nothing or better
 pub record Running (o : List ℕ) (w : ℕ) (l : List ℕ) : Type 0 where
   pub base : Base o w l
-  pub nothing-row : (b : ℕ) → b < w → cell l (w + b) ≡ some nothingWorth
   pub least : (b : ℕ) → b < w → betterOf (cell l (2 * w + b)) (some nothingWorth) ≡ cell l (2 * w + b)
 
 -- how many records stand in a forest
@@ -31,12 +30,13 @@ pub record Bettered (w : ℕ) (x : Row) (l m : List ℕ) : Type 0 where
   pub top : (b : ℕ) → b < w → cell m (2 * w + b) ≡ betterOf (cell l (2 * w + b)) (x b)
   pub same : (k : ℕ) → (2 * w ≤ k → 3 * w ≤ k) → cell m k ≡ cell l k
 
--- the running optimum is bettered by taxon r alone, and by taxon r with something of the row at `rest`, at a cost
+-- the running optimum is bettered by taxon r alone, and by taxon r with something of the row at `rest`, below groups that cost
+-- `above`
 abbrev pub BySingle : List ℕ → ℕ → ℕ → ℕ → List ℕ → List ℕ → Type 0
-BySingle o r cost w l m = Bettered w (oneAt (taxonWorth o r 0 cost)) l m
+BySingle o r above w l m = Bettered w (oneAt (taxonWorth o r 0 (above + price o r))) l m
 
 abbrev pub ByPairs : List ℕ → ℕ → ℕ → ℕ → ℕ → List ℕ → List ℕ → Type 0
-ByPairs o r rest cost w l m = Bettered w (joinRow (taxonWorth o r (branch o r) cost) (rowAt l rest)) l m
+ByPairs o r rest above w l m = Bettered w (joinRow (taxonWorth o r (branch o r) (above + price o r)) (rowAt l rest)) l m
 
 -- what spreading the chain of record r to the row at `to` asks
 pub record Spreadable (o : List ℕ) (r above to w : ℕ) (l : List ℕ) : Type 0 where
@@ -76,7 +76,7 @@ pub record TaxonSpreadable (o : List ℕ) (r rest above to w : ℕ) (l : List �
 -- the taxon alone, which has no diversity, and the taxon with something of the rest have bettered the running optimum
 pub record TaxonSpread (o : List ℕ) (r rest above to w : ℕ) (l m : List ℕ) : Type 0 where
   pub row : (b : ℕ) → b < w
-      → cell m (to + b) ≡ joinOver (some (taxonWorth o r (branch o r) (price o r))) (price o r) (λ i. some nothingWorth) (rowAt l rest) (rowAt l rest) b
+      → cell m (to + b) ≡ taxonOver o r (λ i. some nothingWorth) (rowAt l rest) b
   pub top : (b : ℕ) → b < w
       → cell m (2 * w + b)
       ≡ betterOf (betterOf (cell l (2 * w + b)) (oneAt (taxonWorth o r 0 (above + price o r)) b))
@@ -89,7 +89,7 @@ pub record Crossable (o : List ℕ) (r to w : ℕ) (l : List ℕ) : Type 0 where
   pub positive : 0 < r
   pub most : r ≤ size o
   pub group : isTaxon o r ≡ false
-  pub to-above : w ≤ to
+  pub to-above : 2 * w ≤ to
   pub to-before : to + w ≤ start w r
   pub more : 0 < next o r
   pub alone-row : (b : ℕ) → b < w → cell l (start w r + b) ≡ aloneFrom o r (first o r) b

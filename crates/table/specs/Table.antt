@@ -2,22 +2,24 @@
 use Prim.Native.Nat.{ℕ, _+_, _*_, _-_, _^_, _<_, _≤_}
 use mathlib.Core.Path.{_≡_}
 use mathlib.Core.Logic.{_⊎_}
-use mathlib.Core.Bool.{true, false}
+use mathlib.Core.Bool.{Bool, true, false}
 use mathlib.Core.List.{List}
-use lib.Dec.{eqb}
+use lib.Dec.{eqb, ltb}
 use lib.ListN.{length}
 use Rattle.lists.specs.Lists.{pick}
 use Rattle.outline.specs.Outline.{size, branch, price, isTaxon}
 use Rattle.outline.specs.Refusals.{mostRecords}
 use Rattle.outline.proofs.Kept.{Kept}
 use Rattle.diversity.specs.Search.{optimum}
-use Rattle.laws.specs.Candidate.{Value, none, some, betterOf}
-use Rattle.laws.specs.Forest.{Forest, tree}
+use Rattle.laws.specs.Candidate.{Value, nothingWorth, Cand, none, some, betterOf}
+use Rattle.laws.specs.Forest.{Forest, empty, node, tree}
 use Rattle.laws.specs.Numbers.{weight, worth}
-use Rattle.rows.specs.Rows.{Row, betterRow, joinRow, pushed, rootedRow, acrossUnder, aloneRow, crossRow}
+use Rattle.laws.proofs.Measures.{rootedIn}
+use Rattle.rows.specs.Rows.{Row, pushed, rootedRow, acrossUnder, aloneRow, crossRow}
 use Rattle.rows.proofs.Bounds.{SmallRow, branches, codes}
-use Rattle.table.specs.Cells.{unit, cell}
-use Rattle.table.specs.Memory.{rowAt, Written, Joins, joinOver}
+use Rattle.rows.proofs.Sets.{rootedWorth}
+use Rattle.table.specs.Cells.{unit, cell, Joinable}
+use Rattle.table.specs.Memory.{rowAt, Written, Beside, joinOver}
 
 -- record r of an accepted outline is a taxon
 pub record IsTaxon (o : List ℕ) (r : ℕ) : Type 0 where
@@ -34,19 +36,60 @@ taxonWorth o r d c = record { diversity = d; cost = c; code = weight o r }
 abbrev pub mostAbove : ℕ
 mostAbove = mostRecords * 65535
 
--- what making a row of taxon r asks and leaves: joined with the better of x and y, or else y
-abbrev pub TaxonJoins : List ℕ → ℕ → ℕ → ℕ → ℕ → ℕ → List ℕ → Type 0
-TaxonJoins o r x y to w l = Joins l to (some (taxonWorth o r (branch o r) (price o r))) (price o r) x y y w
+-- the row of taxon r by itself: nothing chosen in each column below the price, and the taxon, at its length, in each from the
+-- price on
+unfoldable pub terminalRow : List ℕ → ℕ → Row
+terminalRow o r b = pick (ltb b (price o r)) (some nothingWorth) (some (taxonWorth o r (branch o r) (price o r)))
 
+-- the clade of a taxon: its record, with no members
+abbrev pub terminalClade : ℕ → Forest
+terminalClade r = node r empty empty
+
+-- c is a set in the clade of taxon r, with what it is worth there, and d is its rooted diversity, "calculated as if" the clade "was
+-- the whole tree" (document 000)
+pub record Shows (o : List ℕ) (r : ℕ) (c : Cand) (d : ℕ) : Type 0 where
+  pub set : ℕ → Bool
+  pub held : c ≡ some (rootedWorth o (weight o) set (terminalClade r))
+  pub rooted : rootedIn o set (terminalClade r) ≡ d
+
+-- "Of a taxon's finished row, before it is joined with others, it is shown that the rooted diversity is 0 in each column below the
+-- price and the length in each from the price on."
+pub record Terminal (o : List ℕ) (r to w : ℕ) (l : List ℕ) : Type 0 where
+  pub zeros : (b : ℕ) → b < w → b < price o r → Shows o r (cell l (to + b)) 0
+  pub lengths : (b : ℕ) → b < w → price o r ≤ b → Shows o r (cell l (to + b)) (branch o r)
+
+-- what filling it asks: nothing chosen stands at w
+pub record TerminalFills (o : List ℕ) (r to w : ℕ) (l : List ℕ) : Type 0 where
+  pub is : IsTaxon o r
+  pub inside : 2 * (to + w) ≤ length l
+  pub nothing-inside : 2 * w + 1 < length l
+  pub nothing : cell l w ≡ some nothingWorth
+
+-- and what it leaves
+pub record TerminalFilled (o : List ℕ) (r to w : ℕ) (l m : List ℕ) : Type 0 where
+  pub terminal : Terminal o r to w m
+  pub written : Written to 0 w (terminalRow o r) l m
+
+-- the finished row stands at `to`
+abbrev pub Finished : List ℕ → ℕ → ℕ → ℕ → List ℕ → Type 0
+Finished o r to w l = (b : ℕ) → b < w → cell l (to + b) ≡ terminalRow o r b
+
+-- what joining the finished row of taxon r at `to` with the rows at x and y asks
+pub record TaxonJoins (o : List ℕ) (r x y to w : ℕ) (l : List ℕ) : Type 0 where
+  pub is : IsTaxon o r
+  pub narrow : w < unit
+  pub inside : 2 * (to + w) ≤ length l
+  pub beside : Beside l to x y w
+  pub fits : (i : ℕ) → i + price o r < w
+      → Joinable (some (taxonWorth o r (branch o r) (price o r))) (betterOf (cell l (x + i)) (cell l (y + i)))
+
+-- taxon r joined with the better of x and y, or else y
+abbrev pub taxonOver : List ℕ → ℕ → Row → Row → Row
+taxonOver o r x y = joinOver (some (taxonWorth o r (branch o r) (price o r))) (price o r) x y y
+
+-- what it leaves
 abbrev pub TaxonRow : List ℕ → ℕ → ℕ → ℕ → ℕ → ℕ → List ℕ → List ℕ → Type 0
-TaxonRow o r x y to w l m = Written to 0 w (joinOver (some (taxonWorth o r (branch o r) (price o r))) (price o r) (rowAt l x) (rowAt l y) (rowAt l y)) l m
-
--- what bettering a row by taxon r, at the diversity d and the cost c and joined with x, asks and leaves
-abbrev pub ByTaxonJoins : List ℕ → ℕ → ℕ → ℕ → ℕ → ℕ → ℕ → List ℕ → Type 0
-ByTaxonJoins o r d c x to w l = Joins l to (some (taxonWorth o r d c)) c x 0 to w
-
-abbrev pub ByTaxon : List ℕ → ℕ → ℕ → ℕ → ℕ → ℕ → ℕ → List ℕ → List ℕ → Type 0
-ByTaxon o r d c x to w l m = Written to 0 w (betterRow (joinRow (taxonWorth o r d c) (rowAt l x)) (rowAt l to)) l m
+TaxonRow o r x y to w l m = Written to 0 w (taxonOver o r (rowAt l x) (rowAt l y)) l m
 
 -- the rows of the chain that begins at record r: what is pushed through it, something in it rooted, and unrooted below
 -- groups that cost `above`
@@ -77,6 +120,7 @@ pub record Base (o : List ℕ) (w : ℕ) (l : List ℕ) : Type 0 where
   pub narrow : w < unit
   pub long : 2 * start w (size o + 1) ≤ length l
   pub none-row : (b : ℕ) → b < w → cell l b ≡ none
+  pub nothing-row : (b : ℕ) → b < w → cell l (w + b) ≡ some nothingWorth
 
 -- the branches and the codes of a forest can be added to the candidates of a row
 pub record Room (o : List ℕ) (w : ℕ) (F : Forest) (x : Row) : Type 0 where
@@ -92,7 +136,7 @@ pub record Ready (o : List ℕ) (r after to w : ℕ) (l : List ℕ) : Type 0 whe
   pub most : r ≤ size o
   pub after-before : 0 < r → after + w ≤ start w r
   pub to-before : 0 < r → to + w ≤ start w r
-  pub to-above : w ≤ to
+  pub to-above : 2 * w ≤ to
   pub apart : (to + w ≤ after) ⊎ (after + w ≤ to)
   pub room : Room o w (tree o r) (rowAt l after)
 

@@ -1,7 +1,8 @@
 // A candidate: a set of taxa and what it is worth, or none.
 ghost use mathlib.Core.Path.{_≡_};
+ghost use mathlib.Core.Logic.{_≢_};
 ghost use Prim.Native.Nat.{_<_, _^_};
-ghost use Rattle.laws.specs.Candidate.{none, some, betterOf, joinOf, chargeOf};
+ghost use Rattle.laws.specs.Candidate.{nothingWorth, none, some, betterOf, joinOf, chargeOf};
 ghost use Rattle.table.specs.Cells.{unit, view, diversityOf, costOf, Joinable, Chargeable};
 
 // A score takes a diversity times UNIT, less the cost. Costs are below UNIT, so that scores compare by diversity first and then
@@ -50,14 +51,22 @@ impl Candidate {
         self
     }
 
-    // Both sets together, which have no taxon in common; none if either is.
+    // Nothing chosen, and another set: the other. The words add up whether it is there or not.
+    pub fn added(self, other: Candidate) -> Self
+        requires { ⌜ view self ≡ some nothingWorth ⌝ }
+        ensures { λ c. ⌜ view c ≡ view other ⌝ }
+    {
+        Self {
+            score: self.score - UNIT + other.score,
+            set: self.set + other.set,
+        }
+    }
+
+    // Both sets together, which have no taxon in common: this one is there; none if the other is none.
     pub fn joined(self, other: Candidate) -> Self
-        requires { ⌜ Joinable (view self) (view other) ⌝ }
+        requires { ⌜ Joinable (view self) (view other) × (view self ≢ none) ⌝ }
         ensures { λ c. ⌜ view c ≡ joinOf (view self) (view other) ⌝ }
     {
-        if self.score == 0 {
-            return self;
-        }
         if other.score == 0 {
             return other;
         }

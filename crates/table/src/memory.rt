@@ -2,9 +2,10 @@
 ghost use mathlib.Core.Path.{_≡_};
 ghost use Prim.Native.Nat.{_+_, _*_, _<_, _≤_, min};
 ghost use lib.ListN.{length};
-ghost use Rattle.laws.specs.Candidate.{none};
+ghost use Rattle.laws.specs.Candidate.{none, betterOf};
 ghost use Rattle.table.specs.Cells.{view, cell};
-ghost use Rattle.table.specs.Memory.{Put, Written, Betters, Bettering, ChargesFrom, ChargingFrom, Charges, Charging, Joins, Joining};
+ghost use Rattle.table.specs.Memory.{rowAt, Put, Written, Betters, Bettering, BetteringBy, ChargesFrom, ChargingFrom};
+ghost use Rattle.table.specs.Memory.{Charges, Charging, Follows, Joins, Joining, Adds};
 use super::candidate::Candidate;
 
 // The candidate at a cell.
@@ -41,14 +42,27 @@ fn put(work: &mut [u64], at: usize, c: Candidate)
     work[k + 1] = c.set;
 }
 
-// Makes every column of a row one candidate.
-pub fn fill_row(work: &mut [u64], to: usize, c: Candidate, width: usize)
+// Makes every column of a row from lo up to hi one candidate.
+pub fn fill_row(work: &mut [u64], to: usize, c: Candidate, lo: usize, hi: usize)
+    requires { ⌜ 2 * (to + hi) ≤ length (now work) ⌝ }
+    ensures { λ _. ⌜ Written to lo hi (λ _. view c) (now (work .entry)) (now (work .exit)) ⌝ }
+{
+    let mut b = lo;
+    while b < hi {
+        put(work, to + b, c);
+        b += 1;
+    }
+}
+
+// Betters each column of a row by one candidate.
+pub fn better_by(work: &mut [u64], to: usize, c: Candidate, width: usize)
     requires { ⌜ 2 * (to + width) ≤ length (now work) ⌝ }
-    ensures { λ _. ⌜ Written to 0 width (λ _. view c) (now (work .entry)) (now (work .exit)) ⌝ }
+    ensures { λ _. ⌜ BetteringBy to (view c) width (now (work .entry)) (now (work .exit)) ⌝ }
 {
     let mut b = 0;
     while b < width {
-        put(work, to + b, c);
+        let d = read(work, to + b);
+        put(work, to + b, d.better(c));
         b += 1;
     }
 }
@@ -115,28 +129,54 @@ pub fn charge_row(work: &mut [u64], to: usize, branch: u64, price: usize, y: usi
     better_rows(work, to, y, 0, least(price, width));
 }
 
-// Makes each column from the price on the better of two: the candidate, joined with the better of x and y for what the price
-// leaves, and z.
+// What may follow in a column: the better of two rows'. The row at `width` has nothing chosen in any column, so it is not read.
+fn follower(work: &[u64], x: usize, y: usize, b: usize, width: usize) -> Candidate
+    requires { ⌜ Follows (now work) x y b width ⌝ }
+    ensures { λ c. ⌜ view c ≡ betterOf (cell (now (work .entry)) (x + b)) (cell (now (work .entry)) (y + b)) ⌝ }
+{
+    let other = column(work, y, b);
+    if x == width {
+        return Candidate::some(0, 0, 0).better(other);
+    }
+    read(work, x + b).better(other)
+}
+
+// Makes each column from the cost on the better of two: what stands in that column of the row at `own`, below groups that cost
+// `above`, joined with the better of x and y for what the cost leaves, and z. The row that is written may be the one at `own`.
 pub fn join_row(
     work: &mut [u64],
     to: usize,
-    c: Candidate,
-    price: usize,
+    own: usize,
+    above: usize,
+    cost: usize,
     x: usize,
     y: usize,
     z: usize,
     width: usize,
 )
-    requires { ⌜ Joins (now work) to (view c) price x y z width ⌝ }
-    ensures { λ _. ⌜ Joining to (view c) price x y z width (now (work .entry)) (now (work .exit)) ⌝ }
+    requires { ⌜ Joins (now work) to own above cost x y z width ⌝ }
+    ensures { λ _. ⌜ Joining to own above cost x y z width (now (work .entry)) (now (work .exit)) ⌝ }
 {
-    let mut b = price;
+    let mut b = cost;
     while b < width {
-        let left = b - price;
-        let d = read(work, x + left);
-        let e = column(work, y, left);
-        let f = column(work, z, b);
-        put(work, to + b, c.joined(d.better(e)).better(f));
+        let c = read(work, own + b).charged(0, above as u64);
+        let next = follower(work, x, y, b - cost, width);
+        let other = column(work, z, b);
+        put(work, to + b, c.joined(next).better(other));
+        b += 1;
+    }
+}
+
+// Adds another row to one that has nothing chosen in any column: what the two have together is what the other has.
+pub fn add_row(work: &mut [u64], to: usize, y: usize, width: usize)
+    requires { ⌜ Adds (now work) to y width ⌝ }
+    ensures { λ _. ⌜ Written to 0 width (rowAt (now (work .entry)) y) (now (work .entry)) (now (work .exit)) ⌝ }
+{
+    let mut b = 0;
+    while b < width {
+        let c = read(work, to + b);
+        let d = column(work, y, b);
+        put(work, to + b, c.added(d));
         b += 1;
     }
 }

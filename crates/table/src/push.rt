@@ -3,7 +3,8 @@ ghost use Rattle.table.specs.Memory.{Betters};
 ghost use Rattle.table.specs.Table.{Ready, Done, Followed};
 use super::memory::better_rows;
 use super::memory::charge_row;
-use super::taxa::taxon_row;
+use super::taxa::join_terminal;
+use super::taxa::terminal_row;
 use outline::fields::branch_of;
 use outline::fields::first_of;
 use outline::fields::next_of;
@@ -35,7 +36,8 @@ pub fn push(o: &[u8], r: usize, after: usize, to: usize, width: usize, work: &mu
     let rest = push(o, n, after, own + width, width, work);
     let f = first_of(o, r);
     if f == 0 {
-        taxon_row(o, r, after, rest, to, width, work);
+        terminal_row(o, r, to, width, work);
+        join_terminal(o, r, after, rest, to, width, work);
         return to;
     }
     let follow = follow_row(work, own, after, rest, width);

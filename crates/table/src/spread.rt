@@ -1,44 +1,60 @@
 // The unrooted way: every pair of a clade and the rest of its chain, by one recursion over the links.
 ghost use mathlib.Core.Path.{_≡_};
+ghost use Prim.Native.Nat.{_≤_};
 ghost use Rattle.lists.specs.Lists.{pick};
 ghost use lib.Dec.{eqb};
-ghost use Rattle.table.specs.Table.{IsTaxon};
-ghost use Rattle.table.specs.Spread.{Running, Pairable, Spreadable, Spread, BySingle, ByPairs, TaxonSpreadable, TaxonSpread, Crossable, Crossed, Tops, ByRow, Meets, Met};
+ghost use Rattle.table.specs.Table.{IsTaxon, mostAbove, Finished};
+ghost use Rattle.table.specs.Spread.{Running, Spreadable, Spread, BySingle, ByPairs, TaxonSpreadable, TaxonSpread, Crossable, Crossed, Tops, ByRow, Meets, Met};
+use super::memory::better_by;
 use super::memory::better_rows;
 use super::memory::charge_from;
 use super::memory::charge_row;
+use super::memory::join_row;
 use super::push::push;
-use super::taxa::better_by_taxon;
-use super::taxa::taxon_row;
+use super::taxa::join_terminal;
+use super::taxa::taxon_of;
+use super::taxa::terminal_row;
 use outline::fields::branch_of;
 use outline::fields::first_of;
 use outline::fields::next_of;
 use outline::fields::price_of;
 
-// Betters the running optimum by taxon r alone, at that cost. It has no diversity, so that it is better than nothing only if it
-// is free.
-fn better_by_single(o: &[u8], r: usize, cost: usize, width: usize, work: &mut [u64])
+// Betters the running optimum by taxon r alone, below groups that cost `above` together. It has no diversity, so that it is better
+// than nothing only if all of it is free.
+fn better_by_single(o: &[u8], r: usize, above: usize, width: usize, work: &mut [u64])
     requires { ⌜ Running (now o) width (now work) × IsTaxon (now o) r ⌝ }
-    ensures { λ _. ⌜ BySingle (now (o .entry)) r cost width (now (work .entry)) (now (work .exit)) ⌝ }
+    requires { ⌜ above ≤ mostAbove ⌝ }
+    ensures { λ _. ⌜ BySingle (now (o .entry)) r above width (now (work .entry)) (now (work .exit)) ⌝ }
 {
-    if cost == 0 {
-        better_by_taxon(o, r, 0, cost, width, 2 * width, width, work);
+    if above + price_of(o, r) as usize == 0 {
+        better_by(work, 2 * width, taxon_of(o, r, 0, 0), width);
     }
 }
 
-// Betters the running optimum by taxon r, at that cost, with something in the rest of its chain.
-fn better_by_pairs(o: &[u8], r: usize, rest: usize, cost: usize, width: usize, work: &mut [u64])
-    requires { ⌜ Pairable (now o) r rest width (now work) ⌝ }
-    ensures { λ _. ⌜ ByPairs (now (o .entry)) r rest cost width (now (work .entry)) (now (work .exit)) ⌝ }
+// Betters the running optimum by taxon r, whose finished row stands at `own`, with something in the rest of its chain, below
+// groups that cost `above` together.
+fn better_by_pairs(
+    o: &[u8],
+    r: usize,
+    rest: usize,
+    above: usize,
+    own: usize,
+    width: usize,
+    work: &mut [u64],
+)
+    requires { ⌜ TaxonSpreadable (now o) r rest above own width (now work) ⌝ }
+    requires { ⌜ Finished (now o) r own width (now work) ⌝ }
+    ensures { λ _. ⌜ ByPairs (now (o .entry)) r rest above width (now (work .entry)) (now (work .exit)) ⌝ }
 {
     if rest != 0 {
-        let branch = branch_of(o, r) as u64;
-        better_by_taxon(o, r, branch, cost, rest, 2 * width, width, work);
+        let cost = above + price_of(o, r) as usize;
+        let top = 2 * width;
+        join_row(work, top, own, above, cost, rest, 0, top, width);
     }
 }
 
-// Taxon r, with the rest of its chain at `rest`, below groups that cost `above` together: makes its rooted row, and betters the
-// running optimum by what it costs with them.
+// Taxon r, with the rest of its chain at `rest`, below groups that cost `above` together: first its row by itself; from that the
+// running optimum is bettered, and then it is joined with the rest.
 fn spread_taxon(
     o: &[u8],
     r: usize,
@@ -51,10 +67,10 @@ fn spread_taxon(
     requires { ⌜ TaxonSpreadable (now o) r rest above to width (now work) ⌝ }
     ensures { λ _. ⌜ TaxonSpread (now (o .entry)) r rest above to width (now (work .entry)) (now (work .exit)) ⌝ }
 {
-    let cost = above + price_of(o, r) as usize;
-    better_by_single(o, r, cost, width, work);
-    better_by_pairs(o, r, rest, cost, width, work);
-    taxon_row(o, r, width, rest, to, width, work);
+    terminal_row(o, r, to, width, work);
+    better_by_single(o, r, above, width, work);
+    better_by_pairs(o, r, rest, above, to, width, work);
+    join_terminal(o, r, width, rest, to, width, work);
 }
 
 // Something in the clade of group r with something in the rest of its chain: either side can be pushed over the other.

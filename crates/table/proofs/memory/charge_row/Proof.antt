@@ -1,6 +1,6 @@
 -- `table::memory::charge_row` meets its contract: all of it at once under a free heading, else from the price on and below it.
 use borrow.Author.Needs.{needs}
-use Rattle.table.proofs.TaxonRows.{charges-from, betters-below, charging-whole}
+use Rattle.table.proofs.ByPrice.{charges-from, betters-below, charging-whole}
 use Rattle.table.proofs.memory.charge_row.Statement.{statement}
 use Rattle.table.proofs.memory.charge_row.Tie as tie
 

@@ -9,10 +9,10 @@ use Rattle.table.proofs.memory.fill_row.Statement.{statement}
 use Rattle.table.proofs.memory.fill_row.Tie as tie
 
 abbrev Inv-loop : tie.InvT-loop
-Inv-loop work₀ to c width b₀ work b = Filling to 0 width (λ _. view c) work₀ work 0 b
+Inv-loop work₀ to c lo hi b₀ work b = Filling to lo hi (λ _. view c) work₀ work lo b
 
 abbrev μ-loop : tie.MeasureT-loop
-μ-loop work₀ to c width b₀ work b = width - b
+μ-loop work₀ to c lo hi b₀ work b = hi - b
 
 loop-again : tie.Need-loop-again Inv-loop μ-loop
 loop-again c = filling-goes (c .before .before .before .before .before .loop .inv) (omega arith) (search needs) (c .before .before .put .ensures) (c .before .before .put .kept .0) refl

@@ -1,7 +1,7 @@
 -- `table::push::push` meets its contract. The measure is how many records are left. Each call is a step of proofs/Pushing, which
 -- shows what the next call asks, and in the end the contract.
 use Prim.Native.Nat.{ℕ, _+_, _*_, _<_, _≤_}
-use mathlib.Core.Path.{refl, _∙_}
+use mathlib.Core.Path.{_≡_, refl, _∙_}
 use native.Mathlib.Omega.{arith}
 use lib.ListN.{length}
 use borrow.Author.Needs.{needs}
@@ -9,10 +9,11 @@ use borrow.Fn.Kinds.{In}
 use borrow.Fn.PlainCycle.{Measures, is, falls, and}
 use Rattle.outline.specs.Inner.{IsRecord}
 use Rattle.outline.specs.Outline.{first}
-use Rattle.table.specs.Table.{start}
-use Rattle.table.proofs.Places.{own-inside, At, to-next, to-first}
-use Rattle.table.proofs.Pushing.{left, left-less, done-none, ready-next, is-taxon, none-row₁, joins-taxon, done-taxon}
+use Rattle.table.specs.Table.{start, TaxonJoins}
+use Rattle.table.proofs.Places.{own-inside, terminal-fills, At, to-next, to-first}
+use Rattle.table.proofs.Pushing.{left, left-less, done-none, ready-next, base₁, joins-taxon, done-taxon}
 use Rattle.table.proofs.Pushing.{betters-follow, ready-first, charges, done-group}
+use Rattle.table.proofs.Terminal.{joins-kept, row-kept}
 use Rattle.table.proofs.push.push.Reads as push
 use Rattle.table.proofs.push.push.Kinds as push-kinds
 use Rattle.table.proofs.push.+push.Lts-push as push-lts
@@ -22,7 +23,8 @@ use Rattle.outline.proofs.fields.next_of.Reads as next-of-reads
 use Rattle.outline.proofs.fields.price_of.Reads as price-of-reads
 use Rattle.table.proofs.memory.charge_row.Reads as charge-row-reads
 use Rattle.table.proofs.push.follow_row.Reads as follow-row-reads
-use Rattle.table.proofs.taxa.taxon_row.Reads as taxon-row-reads
+use Rattle.table.proofs.taxa.join_terminal.Reads as join-terminal-reads
+use Rattle.table.proofs.taxa.terminal_row.Reads as terminal-row-reads
 use Rattle.table.proofs.push.+push.{statement}
 use Rattle.table.proofs.push.+push.Tie.{close}
 
@@ -44,8 +46,10 @@ calls t = (
   push.Post,
   first-of-reads.Asked,
   first-of-reads.Learnt,
-  taxon-row-reads.Asked,
-  taxon-row-reads.Learnt,
+  terminal-row-reads.Asked,
+  terminal-row-reads.Learnt,
+  join-terminal-reads.Asked,
+  join-terminal-reads.Learnt,
   follow-row-reads.Asked,
   follow-row-reads.Learnt,
   branch-of-reads.Asked,
@@ -130,28 +134,41 @@ module _ (t : ℕ) where
   first-of-requires : push-lts.Need-first-of-requires (calls t) (push-at t) push.Post
   first-of-requires c κs = record-r (c .before .before .before .before .before)
 
-  taxon-row-requires : push-lts.Need-taxon-row-requires (calls t) (push-at t) push.Post
-  taxon-row-requires c κs =
+  -- what taxon r asks to be joined
+  joins : (f : After-first-of) → f .first-of .result ≡ 0 →
+      let s = opened f .args in
+      TaxonJoins (s .o .now) (s .r) (s .after) (rest f .push .result) (s .to) (s .width) (rest f .push .last .1 .1 .1 .1 .1 .0)
+  joins f z = joins-taxon (opened f .pre .1) (at f) (rest f .push .ensures) (rest f .push .kept .1 .1 .1 .1 .1 .0) z
+
+  terminal-row-requires : push-lts.Need-terminal-row-requires (calls t) (push-at t) push.Post
+  terminal-row-requires c κs =
       let f = c .before .before in
-      let z = c .before .if2 .taken in (
-        is-taxon (opened f .pre .1) (at f) (rest f .push .ensures) (rest f .push .kept .1 .1 .1 .1 .1 .0) z,
-        (
-          (none-row₁ (opened f .pre .1) (at f) (rest f .push .ensures) (rest f .push .kept .1 .1 .1 .1 .1 .0) z, opened f .pre .1 .to-above),
-          joins-taxon (opened f .pre .1) (at f) (rest f .push .ensures) (rest f .push .kept .1 .1 .1 .1 .1 .0) z,
-        ),
+      let j = joins f (c .before .if2 .taken) in
+      terminal-fills (base₁ (opened f .pre .1) (at f) (rest f .push .ensures) (rest f .push .kept .1 .1 .1 .1 .1 .0)) (j .is) (omega (arith, j .inside))
+
+  join-terminal-requires : push-lts.Need-join-terminal-requires (calls t) (push-at t) push.Post
+  join-terminal-requires c κs =
+      let w = c .before .before .before in
+      let f = w .before .before .before in (
+        λ b h. w .terminal-row .ensures .written .row b (omega arith) h,
+        joins-kept (joins f (w .before .before .if2 .taken)) (omega arith) (w .terminal-row .ensures .written) (w .terminal-row .kept .1 .1 .1 .1 .0),
       )
 
   same-length : push-lts.Need-same-length (calls t) (push-at t) push.Post
   same-length c =
       let r = c .before .before in
-      r .taxon-row .kept .1 .1 .1 .1 .1 .1 .0 ∙ rest (r .before .before .before) .push .kept .1 .1 .1 .1 .1 .0
+      let w = r .before .before .before .before in
+      r .join-terminal .kept .1 .1 .1 .1 .1 .1 .0 ∙ w .terminal-row .kept .1 .1 .1 .1 .0
+      ∙ rest (w .before .before .before) .push .kept .1 .1 .1 .1 .1 .0
 
   returns-2 : push-lts.Need-returns-2 (calls t) (push-at t) push.Post
   returns-2 c =
       let r = c .before .before in
-      let f = r .before .before .before in
-      done-taxon (opened f .pre .1) (at f) (rest f .push .ensures) (rest f .push .kept .1 .1 .1 .1 .1 .0) (r .before .before .if2 .taken)
-      (r .taxon-row .ensures)
+      let w = r .before .before .before .before in
+      let f = w .before .before .before in
+      let z = w .before .before .if2 .taken in
+      done-taxon (opened f .pre .1) (at f) (rest f .push .ensures) (rest f .push .kept .1 .1 .1 .1 .1 .0) z
+      (row-kept (joins f z) (w .terminal-row .ensures .written) (r .join-terminal .ensures))
 
   follow-row-requires : push-lts.Need-follow-row-requires (calls t) (push-at t) push.Post
   follow-row-requires c κs =
@@ -210,5 +227,5 @@ pub +push-spec : {M : Type 1} → statement M
     close μ-push
     (λ t.
     push-lts.spec (calls t) (push-at t) push.Post (returns t) (add-own t) (mul-own t) (mul-own-2 t) (next-of-requires t) (add-push t)
-    (push-requires t) (first-of-requires t) (taxon-row-requires t) (same-length t) (returns-2 t) (follow-row-requires t) (push-requires-2 t)
+    (push-requires t) (first-of-requires t) (terminal-row-requires t) (join-terminal-requires t) (same-length t) (returns-2 t) (follow-row-requires t) (push-requires-2 t)
     (branch-of-requires t) (λ c. search needs) (price-of-requires t) (λ c. search needs) (charge-row-requires t) (same-length-2 t) (returns-3 t))
