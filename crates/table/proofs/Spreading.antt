@@ -45,6 +45,21 @@ pub shuffle : (t n s c : Cand) → betterOf (betterOf (betterOf t n) s) c ≡ be
 shuffle t n s c =
     ap (λ x. betterOf x c) (better-assoc t n s ∙ ap (betterOf t) (better-comm n s)) ∙ better-assoc t _ c
 
+-- ---- the running optimum bettered by a value joined with a row, from its cost on: below that there is nothing to join
+bettered-from : {w : ℕ} {l m : List ℕ} (v : Value) (x : Row)
+    → Written (2 * w) (v .cost) w (λ b. betterOf (joinFrom (some v) (v .cost) x b) (cell l (2 * w + b))) l m
+    → Bettered w (joinRow v x) l m
+unfolding betterOf
+bettered-from {w} {l} {m} v x h = record {
+  top = λ b k.
+      ⊎-elim (λ q. h .row b q k) (below b) (le-or-lt (v .cost) b) ∙ ap (λ c. betterOf c (cell l (2 * w + b))) (join-row v x b)
+      ∙ better-comm (joinRow v x b) (cell l (2 * w + b));
+  same = λ k g. h .same k (λ q. omega (arith, g (omega arith)));
+}
+  where
+    below : (b : ℕ) → b < v .cost → cell m (2 * w + b) ≡ betterOf (joinFrom (some v) (v .cost) x b) (cell l (2 * w + b))
+    below b q = h .same (2 * w + b) (λ g. omega arith) ∙ sym (ap (λ c. betterOf c (cell l (2 * w + b))) (join-below (some v) (v .cost) x b q))
+
 -- ---- taxon r alone
 module _ {o : List ℕ} {w : ℕ} {l : List ℕ} (running : Running o w l) (r above : ℕ) where
   abbrev single : Value
@@ -118,26 +133,16 @@ module _ {o : List ℕ} {r rest above to w : ℕ} {l : List ℕ} (s : TaxonSprea
     }
 
     pub bettered-pairs : {m : List ℕ} → Joining (2 * w) to above cost rest 0 (2 * w) w l m → ByPairs o r rest above w l m
-    unfolding betterOf
-    bettered-pairs {m} v = record {
-      top = λ b h. ⊎-elim (from-cost b h) (below b) (le-or-lt cost b) ∙ better-comm (joinRow pair (rowAt l rest) b) (cell l (2 * w + b));
-      same = λ k g. v .same k (λ q. omega (arith, g (omega arith)));
-    }
-      where
-        joined : (b : ℕ) → joinFrom (some pair) cost (rowAt l rest) b ≡ joinRow pair (rowAt l rest) b
-        joined b = rw e (join-row pair (rowAt l rest) b)
-
-        from-cost : (b : ℕ) → b < w → cost ≤ b → cell m (2 * w + b) ≡ betterOf (joinRow pair (rowAt l rest) b) (cell l (2 * w + b))
-        from-cost b h q =
-            v .row b q h
-            ∙ ap (λ c. betterOf c (cell l (2 * w + b)))
-            (ap (λ c. joinFrom c cost (betterRow (rowAt l rest) (rowAt l 0)) b) (ap (λ c. chargeOf c 0 above) (own-is b q h) ∙ charged-taxon o r above)
-            ∙ join-same _ _ _ (rowAt l rest) b (alone (b - cost) (omega arith)) ∙ joined b)
-
-        below : (b : ℕ) → b < cost → cell m (2 * w + b) ≡ betterOf (joinRow pair (rowAt l rest) b) (cell l (2 * w + b))
-        below b q =
-            v .same (2 * w + b) (λ g. omega arith)
-            ∙ ap (λ c. betterOf c (cell l (2 * w + b))) (sym (join-below (some pair) cost (rowAt l rest) b q) ∙ joined b)
+    bettered-pairs v =
+        bettered-from pair (rowAt l rest) (record {
+          row = λ b q h.
+              v .row b (omega arith) h
+              ∙ ap (λ c. betterOf c (cell l (2 * w + b)))
+              (ap (λ c. joinFrom c cost (betterRow (rowAt l rest) (rowAt l 0)) b)
+              (ap (λ c. chargeOf c 0 above) (own-is b (omega arith) h) ∙ charged-taxon o r above)
+              ∙ join-same _ _ _ (rowAt l rest) b (alone (b - cost) (omega arith)) ∙ ap (λ k. joinFrom (some pair) k (rowAt l rest) b) e);
+          same = λ k g. v .same k (λ q. omega (arith, g (omega arith)));
+        })
 
   pub bettered-none : rest ≡ 0 → ByPairs o r rest above w l l
   unfolding joinRow
@@ -296,20 +301,7 @@ module _ {to above w : ℕ} {l : List ℕ} (s : Tops l to above w) where
   }
 
   pub bettered-moved : {m : List ℕ} → ChargingFrom (2 * w) to 0 above (2 * w) w l m → ByRow to above w l m
-  unfolding betterOf
-  bettered-moved {m} v = record {
-    top = λ b k. ⊎-elim (moved b k) (below b) (le-or-lt above b) ∙ better-comm (joinRow (heading 0 above) (rowAt l to) b) (cell l (2 * w + b));
-    same = λ k g. v .same k (λ q. omega (arith, g (omega arith)));
-  }
-    where
-      moved : (b : ℕ) → b < w → above ≤ b → cell m (2 * w + b) ≡ betterOf (joinRow (heading 0 above) (rowAt l to) b) (cell l (2 * w + b))
-      moved b k q = v .row b q k ∙ ap (λ c. betterOf c (cell l (2 * w + b))) (join-row (heading 0 above) (rowAt l to) b)
-
-      below : (b : ℕ) → b < above → cell m (2 * w + b) ≡ betterOf (joinRow (heading 0 above) (rowAt l to) b) (cell l (2 * w + b))
-      below b q =
-          v .same (2 * w + b) (λ g. omega arith)
-          ∙ ap (λ c. betterOf c (cell l (2 * w + b)))
-          (sym (join-below (some (heading 0 above)) above (rowAt l to) b q) ∙ join-row (heading 0 above) (rowAt l to) b)
+  bettered-moved v = bettered-from (heading 0 above) (rowAt l to) v
 
 -- ---- a meeting of the crossing row at `to` and the two rows at `own`
 module _ {own to above w : ℕ} {l₀ l₁ : List ℕ} (s : Meets l₀ own to above w) (h₁ : ByRow to above w l₀ l₁) (k₁ : length l₁ ≡ length l₀) where
