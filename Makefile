@@ -45,8 +45,9 @@ bench: lib
 
 bench-beside: lib
 	$(if $(BESIDE),,$(error BESIDE is missing, the libplates.a of another build))
-	$(CC) -shared -o target/beside.so -Wl,--whole-archive "$(BESIDE)" -Wl,--no-whole-archive
-	$(CARGO) run --release --offline --manifest-path bench/Cargo.toml -- --beside target/beside.so
+	$(CC) -shared -o target/other.so -Wl,--whole-archive "$(BESIDE)" -Wl,--no-whole-archive
+	$(CC) -shared -o target/this.so -Wl,--whole-archive $(LIBRARY) -Wl,--no-whole-archive
+	$(CARGO) run --release --offline --manifest-path bench/Cargo.toml -- --beside target/other.so target/this.so
 
 test:
 	bash .ci/run

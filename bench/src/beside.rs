@@ -1,9 +1,8 @@
-//! Another build of the library, loaded from a shared object, and its times beside those of the linked one.
+//! Two builds of the library, both loaded from shared objects, and the times of one beside those of the other.
 
 use crate::case::{Buffers, Case, Choose, Outcome};
 use crate::times::Times;
 use crate::{instances, RECORDS};
-use plates_scale::library;
 use std::ffi::{c_char, c_int, c_void, CStr, CString};
 use std::fs;
 use std::mem::transmute;
@@ -104,7 +103,7 @@ fn latest_error() -> String {
 pub struct Pair {
     pub case: Case,
     pub other: Times,
-    pub linked: Times,
+    pub this: Times,
     /// The other build takes no headings.
     pub refused: bool,
 }
@@ -114,15 +113,15 @@ impl Pair {
         Pair {
             case,
             other: Times::default(),
-            linked: Times::default(),
+            this: Times::default(),
             refused: false,
         }
     }
 
     /// The first calls, not timed: answers, marks and curves are compared.
-    fn first_calls(&mut self, other: Choose, buffers: &mut Buffers) {
+    fn first_calls(&mut self, other: Choose, this: Choose, buffers: &mut Buffers) {
         let theirs = self.case.outcome_by(other, buffers);
-        let ours = self.case.outcome_by(&library::choose, buffers);
+        let ours = self.case.outcome_by(this, buffers);
         self.refused = self.case.tree.has_headings() && theirs.answer[0] == FIELD_OUT_OF_RANGE;
         if !self.refused {
             self.compare(theirs, ours);
@@ -141,27 +140,29 @@ impl Pair {
     }
 
     /// A call of each, in turn.
-    fn measure(&mut self, other: Choose, buffers: &mut Buffers) {
+    fn measure(&mut self, other: Choose, this: Choose, buffers: &mut Buffers) {
         self.other.add(self.case.time_by(other, buffers));
-        let seconds = self.case.time_by(&library::choose, buffers);
-        self.linked.add(seconds);
+        self.this.add(self.case.time_by(this, buffers));
     }
 }
 
 /// Every shape, both ways, at a small count and the largest.
-pub fn pairs(build: &Build) -> Vec<Pair> {
+pub fn pairs(other: &Build, this: &Build) -> Vec<Pair> {
     let other: Choose = &|outline, count, way, marks, curve, work| {
-        build.choose(outline, count, way, marks, curve, work)
+        other.choose(outline, count, way, marks, curve, work)
+    };
+    let this: Choose = &|outline, count, way, marks, curve, work| {
+        this.choose(outline, count, way, marks, curve, work)
     };
     let mut buffers = Buffers::new(RECORDS, instances::COUNT);
     let mut pairs = cases();
     for pair in &mut pairs {
-        pair.first_calls(other, &mut buffers);
+        pair.first_calls(other, this, &mut buffers);
     }
     for round in 1..=ROUNDS {
         eprintln!("round {round} of {ROUNDS}");
         for pair in pairs.iter_mut().filter(|pair| !pair.refused) {
-            (0..CALLS).for_each(|_| pair.measure(other, &mut buffers));
+            (0..CALLS).for_each(|_| pair.measure(other, this, &mut buffers));
         }
     }
     pairs

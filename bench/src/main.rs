@@ -26,10 +26,10 @@ use std::path::Path;
 use std::process::ExitCode;
 
 const USAGE: &str = "\
-bench [--quick | --beside FILE]
-  --quick        fewer runs, without GLPK and the tables
-  --beside FILE  only plates_choose beside that of another build, FILE being a shared object;
-                 `make bench-beside BESIDE=libplates.a` makes one of a static library and runs this";
+bench [--quick | --beside OTHER THIS]
+  --quick              fewer runs, without GLPK and the tables
+  --beside OTHER THIS  only plates_choose of two builds, OTHER and THIS being shared objects;
+                       `make bench-beside BESIDE=libplates.a` makes them of static libraries and runs this";
 const RECORDS: usize = 127;
 const COUNTS: [u32; 3] = [64, 256, 1_024];
 
@@ -56,7 +56,7 @@ fn main() -> ExitCode {
     let done = match arguments.iter().map(String::as_str).collect::<Vec<_>>()[..] {
         [] => run(&Plan::new(false)),
         ["--quick"] => run(&Plan::new(true)),
-        ["--beside", file] => run_beside(Path::new(file)),
+        ["--beside", other, this] => run_beside(Path::new(other), Path::new(this)),
         _ => {
             eprintln!("{USAGE}");
             return ExitCode::from(2);
@@ -91,10 +91,10 @@ fn run(plan: &Plan) -> Result<(), String> {
     Ok(())
 }
 
-fn run_beside(file: &Path) -> Result<(), String> {
-    let build = Build::load(file)?;
+fn run_beside(other: &Path, this: &Path) -> Result<(), String> {
+    let (other, this) = (Build::load(other)?, Build::load(this)?);
     println!("Machine: {}\n", machine::description());
-    report::builds(&beside::pairs(&build));
+    report::builds(&beside::pairs(&other, &this));
     Ok(())
 }
 

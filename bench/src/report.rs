@@ -320,7 +320,7 @@ pub fn builds(pairs: &[Pair]) {
 }
 
 fn pair_row(pair: &Pair) -> Vec<String> {
-    let (other, this) = (&pair.other, &pair.linked);
+    let (other, this) = (&pair.other, &pair.this);
     let times = [
         other.shortest(),
         other.median(),
