@@ -13,7 +13,7 @@ fn main() -> Result<(), Box<dyn Error>> {
 
     let (diversity, cost, taxa) = (choice.diversity(), choice.cost(), choice.taxa());
     println!("{count} {} {diversity} {cost} {}", way as u32, taxa.len());
-    for column in choice.curve() {
+    for column in choice.curve().iter().flatten() {
         println!("{} {} {}", column.count, column.diversity, column.cost);
     }
     for taxon in taxa {

@@ -3,9 +3,10 @@
  *
  * Plates chooses which species plates go into a field guide of a given page count, so that they show as much of the family
  * tree as the space allows. The caller hands over the tree with a length for each branch, a price for each plate and for each
- * group's heading, and a page count. The library gives the best set of plates for that count, and for every smaller count the
- * best that can be reached. It is not a heuristic: among all the sets that fit, no other is better. In the literature the
- * problem is called phylogenetic diversity under a budget (Pardi and Goldman, Systematic Biology 56(3), 2007).
+ * group's heading, and a page count, and may lock species that must be in the guide. The library gives the best set of plates
+ * for that count, and for every smaller count the best that can be reached. It is not a heuristic: among all the sets that fit,
+ * no other is better. In the literature the problem is called phylogenetic diversity under a budget (Pardi and Goldman,
+ * Systematic Biology 56(3), 2007).
  *
  *     plates_read     the outline of a tree in Newick form
  *     plates_check    whether an outline is sound, and if not what is wrong and where
@@ -21,6 +22,7 @@
  *     heading    the block that a group has in the guide if a taxon below it is chosen; one of price 0 takes no space
  *     length     the length of the branch above a taxon or a group, a whole number
  *     quarter    a quarter page, the unit of prices and of page counts
+ *     locked     said of a taxon that must be in the guide, such as a species on its jacket: every choice has it
  *     outline    the tree, as an array of records
  *
  *
@@ -34,11 +36,17 @@
  *     2 to 3    first    0                        the group's first member
  *     4 to 7    length   0 to 1,000,000           0 to 1,000,000
  *     8 to 11   price    0 to 65,535 quarters     0 to 65,535 quarters, of its heading
- *     12 to 15  plate    1 to 4,294,967,295       0
+ *     12 to 15  plate    1 to 2,147,483,647;      0
+ *                        bit 31 is its lock
  *
  * So a record whose first is 0 is a taxon, and every other record is a group.
  *
- * Limits: 1 to 127 records, at most 64 taxa, no two taxa with the same plate. A page count is 0 to 4,096 quarters.
+ * Bit 31 of a taxon's plate field is 1 if the taxon is locked, and the lower 31 bits are its plate: 2,147,483,648 + 11 is plate
+ * 11, locked. Before there were locks, a field above 2,147,483,647 was a plate of that number; outlines without such fields give
+ * what they gave.
+ *
+ * Limits: 1 to 127 records, at most 64 taxa, no two taxa with the same plate, locked or not. A page count is 0 to 4,096
+ * quarters.
  *
  * Links: a link (next or first) that is not 0 names a later record, so it is greater than the number of the record it stands
  * in, and at most N. Each record but record 1 is named by exactly one link. A group may have any number of members, one
@@ -87,8 +95,10 @@
  *
  *     11 3   12 1   13 2
  *
- * The form has no prices for headings: in the outline that is read the price of each group is 0, and the caller may write
- * another there.
+ * The form has no prices for headings and no locks: in the outline that is read the price of each group is 0, and no taxon is
+ * locked. The caller may write another price there, and may lock the taxon of record r by
+ *
+ *     outline[PLATES_OUTLINE_LEN(r) - 1] |= 0x80;
  *
  * Records are numbered as their parts begin in the text: the root first, then its first member with all below it, and so on.
  *
@@ -106,14 +116,19 @@
  *
  * The cost of a set is the sum of the prices of all records that are, or have below them, a chosen taxon: the price of each
  * chosen plate, and for each group with a chosen taxon below it the price of its heading, once. It is the same either way; the
- * root's own heading counts. A set fits a page count if its cost is at most the count. Of two sets that fit, the better one is
+ * root's own heading counts. A set fits a page count if it has every locked taxon and its cost is at most the count. Of two sets
+ * that fit, the better one is
  *
  *     1. the one with more diversity;
  *     2. at equal diversity the one that costs less;
  *     3. at equal cost too, the one that has the lowest-numbered taxon on which they differ.
  *
- * So there is exactly one best set for each outline, way and count, and every call gives it. A taxon of price 0 is always
- * chosen where all groups above it have price 0 too. The best set may be empty: that is a selection too, and not a refusal.
+ * So there is exactly one best set for each outline, way and count that a set fits, and every call gives it. It has all locked
+ * taxa, whatever they cost. A taxon of price 0 is always chosen where all groups above it have price 0 too. Where no taxon is
+ * locked the best set may be empty: that is a selection too, and not a refusal.
+ *
+ * No set fits a count below the cost of the locked taxa themselves, with the headings above them. Choosing for such a count is
+ * refused (12); in the curve of a larger count it has diversity 0 and cost 4,294,967,295.
  *
  * In tree A with 5 quarters, rooted, the best set is plates 11 and 13: diversity 3 + 4 + 5 = 12, cost 3 + 2 = 5. For the
  * counts from 0 to 5 the best diversities are 0, 5, 5, 10, 10, 12, and their costs 0, 1, 1, 3, 3, 5. At count 2 that is plate
@@ -121,6 +136,10 @@
  *
  * If group 2 had a heading of 2 quarters, plate 12 alone would cost 1 + 2 = 3, so that at count 2 plate 13 would be best. All
  * three plates would cost 3 + 1 + 2 + 2 = 8, with the heading paid once.
+ *
+ * If plate 13 were locked, in tree A without that heading, counts 0 and 1 would be refused. At count 2 plate 13 would be best,
+ * with diversity 5, and unrooted with diversity 0 though it costs 2 quarters. For the counts from 0 to 5 the best diversities,
+ * rooted, would be 0, 0, 5, 10, 10, 12, and their costs 4,294,967,295, 4,294,967,295, 2, 3, 3, 5.
  *
  *
  * WHAT THE CALLER HAS TO KEEP
@@ -175,7 +194,14 @@ extern "C" {
 #define PLATES_MOST_COUNT 4096
 #define PLATES_MOST_LENGTH 1000000
 #define PLATES_MOST_PRICE 65535
+#define PLATES_MOST_PLATE 2147483647
 #define PLATES_MOST_TEXT_LEN 16384
+
+/* Bit 31 of a taxon's plate field, which locks it: PLATES_LOCK | plate is the field of a locked taxon. */
+#define PLATES_LOCK UINT32_C(2147483648)
+
+/* What the curve has for the cost of a count that no set fits. No set costs as much. */
+#define PLATES_NO_SET UINT32_C(4294967295)
 
 /*
  * How many elements an outline has, and how many each buffer has to have. They are constant expressions where their arguments
@@ -216,7 +242,7 @@ enum plates_way {
  * numbers unless the function says another, and the first that holds is given. A refusal has a place: the number of the record
  * at fault, from 1, or 0 where no one record is.
  *
- * Later versions add refusals, with numbers from 12 on. So treat any number other than PLATES_OK as a refusal, also one that is
+ * Later versions add refusals, with numbers from 13 on. So treat any number other than PLATES_OK as a refusal, also one that is
  * not named here: give a switch over these a default.
  */
 enum plates_refusal {
@@ -230,15 +256,15 @@ enum plates_refusal {
     PLATES_TOO_MANY_RECORDS = 3,
     /* The page count is above 4,096; place 0. */
     PLATES_COUNT_TOO_LARGE = 4,
-    /* Length, price or plate is outside its range: a length above 1,000,000, a price above 65,535, a taxon's plate that is 0, or
-     * a group's that is not; place is the lowest such record. */
+    /* Length, price or plate is outside its range: a length above 1,000,000, a price above 65,535, a taxon's plate that is 0,
+     * locked or not, or a group's plate field that is not 0, bit 31 included; place is the lowest such record. */
     PLATES_FIELD_OUT_OF_RANGE = 5,
     /* A link of the record is not 0 and not the number of a later record; or it is record 1 and its next is not 0; or it is
      * another record and no link names it, or more than one does. place is the lowest such record. */
     PLATES_BAD_LINK = 6,
     /* The outline has more than 64 taxa; place 0. */
     PLATES_TOO_MANY_TAXA = 7,
-    /* An earlier taxon has the same plate; place is the lowest such record, so the later of the two. */
+    /* An earlier taxon has the same plate, whatever their locks; place is the lowest such record, so the later of the two. */
     PLATES_DUPLICATE_PLATE = 8,
     /* marks, curve or work is shorter than PLATES_MARKS_LEN, PLATES_CURVE_LEN or PLATES_WORK_LEN says, or the outline of
      * plates_read than PLATES_OUTLINE_LEN says; place 0. */
@@ -247,7 +273,10 @@ enum plates_refusal {
     PLATES_BAD_TEXT = 10,
     /* A taxon of the text has no pair or more than one, a pair's plate is no taxon's, or the count of pair numbers is odd;
      * place 0. */
-    PLATES_BAD_PAIRS = 11
+    PLATES_BAD_PAIRS = 11,
+    /* No set that has every locked taxon fits the page count: the locked taxa themselves, with the headings above them, cost
+     * more; place 0. */
+    PLATES_LOCKED_TOO_DEAR = 12
 };
 
 /* What stands where in the answer of plates_choose. */
@@ -262,7 +291,8 @@ enum plates_answer {
     PLATES_ANSWER_COST = 3,
     /* The number of taxa in it. */
     PLATES_ANSWER_TAXA = 4,
-    /* How many quarters the page count could be lower at the same diversity: the page count minus the cost. */
+    /* How many quarters the page count could be lower, with a set that fits, at the same diversity: the page count minus the
+     * cost. */
     PLATES_ANSWER_SPARE = 5,
     /* The number of elements. */
     PLATES_ANSWER_LEN = 6
@@ -296,24 +326,26 @@ uint32_t plates_read(const uint8_t *text, size_t text_len, const uint32_t *pairs
 /*
  * Whether an outline is sound.
  *
- * Gives PLATES_OK, or the first of refusals 2, 3 and 5 to 8 that holds (1, 4 and 9 concern choosing only). *place is written in
- * any case: the refusal's place, 0 for PLATES_OK.
+ * Gives PLATES_OK, or the first of refusals 2, 3 and 5 to 8 that holds (the others concern choosing or reading). *place is
+ * written in any case: the refusal's place, 0 for PLATES_OK.
  */
 uint32_t plates_check(const uint8_t *outline, size_t outline_len, uint32_t *place);
 
 /*
  * The number of the record of the taxon that has a plate, from 1. 0 if no taxon has it, or if plates_check refuses the outline.
+ * The lock is no part of the plate, so no taxon has one above PLATES_MOST_PLATE.
  */
 uint32_t plates_find(const uint8_t *outline, size_t outline_len, uint32_t plate);
 
 /*
  * Chooses the best set of taxa for a page count.
  *
- * Gives PLATES_OK or a refusal, and writes all six elements of answer in any case. On PLATES_OK, for N records and a count B:
+ * Gives PLATES_OK, or the first of refusals 1 to 9 and 12 that holds, and writes all six elements of answer in any case. On
+ * PLATES_OK, for N records and a count B:
  *
  *     marks   the first N: for each record 1 if it is a chosen taxon, else 0; record r stands at marks[r - 1]
  *     curve   the first 2 * (B + 1): for each count b from 0 to B the best diversity at curve[2 * b], and its cost at
- *             curve[2 * b + 1]
+ *             curve[2 * b + 1]; where no set fits b, which is never so at B, these are 0 and PLATES_NO_SET
  *     work    the first 4 * (N + 2) * (B + 1): all 0
  *
  * Elements beyond these stay as they were, so a buffer may be longer than needed. On a refusal marks, curve and work all stay
@@ -343,15 +375,16 @@ static inline uint32_t plates_field_(const uint8_t *at, size_t bytes) {
 
 /*
  * Writes record `record` (from 1) into an outline that has room for it: PLATES_OUTLINE_LEN(record) bytes. Judges nothing.
+ * plate_field is the plate of a taxon, or PLATES_LOCK | plate if it is locked, and 0 for a group.
  */
 static inline void plates_put_record(uint8_t *outline, size_t record, uint16_t next, uint16_t first,
-                                     uint32_t length, uint32_t price, uint32_t plate) {
+                                     uint32_t length, uint32_t price, uint32_t plate_field) {
     uint8_t *at = outline + PLATES_OUTLINE_LEN(record - 1);
     plates_put_field_(at, 2, next);
     plates_put_field_(at + 2, 2, first);
     plates_put_field_(at + 4, 4, length);
     plates_put_field_(at + 8, 4, price);
-    plates_put_field_(at + 12, 4, plate);
+    plates_put_field_(at + 12, 4, plate_field);
 }
 
 /* The fields of record `record` (from 1), which the outline has to have. */
@@ -371,11 +404,19 @@ static inline uint32_t plates_record_price(const uint8_t *outline, size_t record
     return plates_field_(outline + PLATES_OUTLINE_LEN(record - 1) + 8, 4);
 }
 
+/* The plate without the lock. */
 static inline uint32_t plates_record_plate(const uint8_t *outline, size_t record) {
-    return plates_field_(outline + PLATES_OUTLINE_LEN(record - 1) + 12, 4);
+    return plates_field_(outline + PLATES_OUTLINE_LEN(record - 1) + 12, 4) & (PLATES_LOCK - 1);
 }
 
-/* The curve's two numbers for a count, which has to be at most the page count that was chosen for. */
+/* 1 for a locked taxon, else 0. */
+static inline uint32_t plates_record_is_locked(const uint8_t *outline, size_t record) {
+    uint32_t field = plates_field_(outline + PLATES_OUTLINE_LEN(record - 1) + 12, 4);
+    return plates_record_first(outline, record) == 0 && (field & PLATES_LOCK) != 0 ? 1 : 0;
+}
+
+/* The curve's two numbers for a count, which has to be at most the page count that was chosen for. Where no set fits the count,
+ * the diversity is 0 and the cost PLATES_NO_SET. */
 static inline uint32_t plates_curve_diversity(const uint32_t *curve, size_t count) {
     return curve[2 * count];
 }

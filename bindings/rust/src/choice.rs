@@ -8,6 +8,9 @@ use std::fmt;
 /// The largest page count, in quarter pages.
 pub const MOST_COUNT: u32 = 4096;
 
+// What the library's curve has for the cost of a count that no set fits.
+const NO_SET: u32 = u32::MAX;
+
 /// What the diversity of a set of taxa is. It is 0 for the empty set either way.
 #[derive(Clone, Copy, Debug, PartialEq, Eq, Hash)]
 pub enum Way {
@@ -25,7 +28,8 @@ pub enum Way {
 pub struct Column {
     /// The count, in quarter pages.
     pub count: u32,
-    /// The most diversity that a set which fits the count has.
+    /// The most diversity that a set which fits the count has. Only sets with every locked taxon
+    /// fit.
     pub diversity: u32,
     /// The least that a set of this diversity costs.
     pub cost: u32,
@@ -39,7 +43,7 @@ pub struct Choice {
     spare: u32,
     taxa: Vec<Record>,
     marks: Vec<u8>,
-    curve: Vec<Column>,
+    curve: Vec<Option<Column>>,
 }
 
 impl Choice {
@@ -56,14 +60,14 @@ impl Choice {
         self.cost
     }
 
-    /// How many quarters the page count could be lower at the same diversity: the page count minus
-    /// the cost.
+    /// How many quarters the page count could be lower, with a set that fits, at the same
+    /// diversity: the page count minus the cost.
     #[must_use]
     pub fn spare(&self) -> u32 {
         self.spare
     }
 
-    /// The chosen taxa, in record order.
+    /// The chosen taxa, in record order. The locked ones are among them.
     #[must_use]
     pub fn taxa(&self) -> &[Record] {
         &self.taxa
@@ -75,9 +79,25 @@ impl Choice {
         &self.marks
     }
 
-    /// The best for each count from 0 to the page count: that for count b stands at index b.
+    /// The best for each count from 0 to the page count: that for count b stands at index b. It is
+    /// `None` where no set fits the count, since the locked taxa cost more. For the page count
+    /// itself a set always fits, and without locked taxa for every count.
+    ///
+    /// ```
+    /// use plates::{Column, Tree, Way};
+    ///
+    /// let tree = Tree::group(0, [Tree::locked_taxon(11, 4, 2), Tree::taxon(12, 3, 1)]);
+    /// let choice = tree.outline()?.choose(4, Way::Rooted)?;
+    /// assert_eq!(choice.curve()[1], None);
+    /// assert_eq!(choice.curve()[2], Some(Column { count: 2, diversity: 4, cost: 2 }));
+    ///
+    /// let columns = choice.curve().iter().flatten();
+    /// let costs: Vec<u32> = columns.map(|column| column.cost).collect();
+    /// assert_eq!(costs, [2, 3, 3]);
+    /// # Ok::<(), Box<dyn std::error::Error>>(())
+    /// ```
     #[must_use]
-    pub fn curve(&self) -> &[Column] {
+    pub fn curve(&self) -> &[Option<Column>] {
         &self.curve
     }
 }
@@ -147,13 +167,14 @@ impl Outline {
 /// taxon: so each group with a chosen taxon below it is paid once, the root included, whatever the
 /// way.
 ///
-/// The best set is the one with the most diversity among those that cost no more than the count; at
-/// equal diversity the one that costs less; at equal cost too, the one that has the lowest-numbered
-/// taxon on which they differ.
+/// A set fits the count if it has every locked taxon and costs no more than the count. The best set
+/// is the one with the most diversity among those that fit; at equal diversity the one that costs
+/// less; at equal cost too, the one that has the lowest-numbered taxon on which they differ.
 ///
 /// # Errors
 ///
-/// [`Refusal::CountTooLarge`] if the count is above [`MOST_COUNT`]; nothing else.
+/// [`Refusal::CountTooLarge`] if the count is above [`MOST_COUNT`]; [`Refusal::LockedTooDear`] if
+/// the locked taxa, with the groups above them, cost more than the count; nothing else.
 ///
 /// ```
 /// use plates::{choose, Tree, Way};
@@ -169,7 +190,8 @@ impl Outline {
 /// assert_eq!(plates, [12, 13]);
 /// assert_eq!((choice.diversity(), choice.cost(), choice.spare()), (10, 3, 1));
 ///
-/// let diversities: Vec<u32> = choice.curve().iter().map(|column| column.diversity).collect();
+/// let columns = choice.curve().iter().flatten();
+/// let diversities: Vec<u32> = columns.map(|column| column.diversity).collect();
 /// assert_eq!(diversities, [0, 5, 5, 10, 10]);
 /// # Ok::<(), Box<dyn std::error::Error>>(())
 /// ```
@@ -244,10 +266,13 @@ fn read(outline: &Outline, count: u32, work: &Work, answer: [u32; 6]) -> Choice 
         .filter(|(_, mark)| **mark == 1);
     let taxa = chosen.map(|(record, _)| record).collect();
     let columns = (0..=count).zip(work.curve.chunks_exact(2));
-    let curve = columns.map(|(count, column)| Column {
-        count,
-        diversity: column[0],
-        cost: column[1],
+    let curve = columns.map(|(count, column)| {
+        let (diversity, cost) = (column[0], column[1]);
+        (cost != NO_SET).then_some(Column {
+            count,
+            diversity,
+            cost,
+        })
     });
     Choice {
         diversity,

@@ -2,17 +2,18 @@
 //! show as much of the family tree as the space allows.
 //!
 //! The caller gives the tree, with a length for each branch and a price in quarter pages for each
-//! taxon's plate and for each group's heading, and a page count. The library gives the set of taxa
-//! with the most diversity for that count, and the best that can be reached for every smaller
-//! count. It is not a heuristic: among all the sets that fit, no other is better. In the literature
-//! the problem is called phylogenetic diversity under a budget (Pardi and Goldman, Systematic
-//! Biology 56(3), 2007).
+//! taxon's plate and for each group's heading, and a page count, and may lock taxa that must be in
+//! the guide. The library gives the set of taxa with the most diversity for that count, and the
+//! best that can be reached for every smaller count. It is not a heuristic: among all the sets that
+//! fit, no other is better. In the literature the problem is called phylogenetic diversity under a
+//! budget (Pardi and Goldman, Systematic Biology 56(3), 2007).
 //!
 //! An [`Outline`] is a tree that has been checked. It is read from text in Newick form with
 //! [`Outline::from_newick`], or made from a [`Tree`], which is built by nesting; groups whose
-//! headings take space are built with [`Tree::headed_group`]. [`choose`], also a method of the
-//! outline, gives a [`Choice`] for an outline, a page count and a [`Way`]. What is wrong with a
-//! text, an outline or a page count is told as a [`Refusal`].
+//! headings take space are built with [`Tree::headed_group`], and locked taxa with
+//! [`Tree::locked_taxon`]. [`choose`], also a method of the outline, gives a [`Choice`] for an
+//! outline, a page count and a [`Way`]. What is wrong with a text, an outline or a page count is
+//! told as a [`Refusal`].
 //!
 //! ```
 //! use plates::{Outline, Tree, Way};
@@ -55,7 +56,7 @@ mod tree;
 
 pub use choice::{choose, choose_in, Choice, Column, Way, Work, MOST_COUNT};
 pub use newick::MOST_TEXT_LEN;
-pub use outline::{Outline, Record, MOST_RECORDS, MOST_TAXA, RECORD_BYTES};
+pub use outline::{Outline, Record, MOST_PLATE, MOST_RECORDS, MOST_TAXA, RECORD_BYTES};
 pub use refusal::Refusal;
 pub use tree::{Tree, TreeError};
 

@@ -24,6 +24,7 @@ impl Outline {
     /// Prices are pairs, plate and price in quarter pages, in any order: one for each taxon, and
     /// none for other plates. Headings have no prices here: the price of each group is 0. A tree
     /// whose headings take space is built with [`Tree::headed_group`](crate::Tree::headed_group).
+    /// Nor is any taxon locked: [`with_locked`](Outline::with_locked) gives the outline with locks.
     ///
     /// The records of the outline are numbered as their parts begin in the text.
     ///

@@ -10,6 +10,11 @@ pub const RECORD_BYTES: usize = 16;
 pub const MOST_RECORDS: usize = 127;
 /// How many taxa an outline has at most.
 pub const MOST_TAXA: usize = 64;
+/// The largest plate. A plate field has room for no larger one beside the lock.
+pub const MOST_PLATE: u32 = 2_147_483_647;
+
+// Bit 31 of a taxon's plate field; the bits below it are the plate.
+pub(crate) const LOCK: u32 = MOST_PLATE + 1;
 
 /// A record of an outline: a taxon, or a group.
 #[derive(Clone, Copy, Debug, PartialEq, Eq, Hash)]
@@ -24,8 +29,10 @@ pub struct Record {
     pub length: u32,
     /// The price in quarter pages: of a taxon's plate, or of a group's heading.
     pub price: u32,
-    /// A taxon's plate; 0 for a group.
+    /// A taxon's plate, 1 to [`MOST_PLATE`], locked or not; 0 for a group.
     pub plate: u32,
+    /// Whether it is a locked taxon, which every choice has.
+    pub locked: bool,
 }
 
 impl Record {
@@ -42,13 +49,15 @@ impl Record {
                 .rev()
                 .fold(0, |value, byte| value << 8 | u32::from(*byte))
         };
+        let plate_field = field(12, 16);
         Record {
             number,
             next: field(0, 2),
             first: field(2, 4),
             length: field(4, 8),
             price: field(8, 12),
-            plate: field(12, 16),
+            plate: plate_field & MOST_PLATE,
+            locked: plate_field & LOCK != 0,
         }
     }
 }
@@ -66,7 +75,10 @@ impl Record {
 /// | 2 to 3 | first | record of the group's first member; 0 makes the record a taxon |
 /// | 4 to 7 | length | of the branch above, 0 to 1,000,000 |
 /// | 8 to 11 | price | of a taxon's plate or of a group's heading, 0 to 65,535 |
-/// | 12 to 15 | plate | a taxon 1 to 4,294,967,295, no two alike; a group 0 |
+/// | 12 to 15 | plate | a taxon 1 to 2,147,483,647, no two alike; bit 31 is its lock; a group 0 |
+///
+/// Bit 31 of a taxon's plate field is 1 if the taxon is locked, and the lower 31 bits are its
+/// plate. Before there were locks, a field above 2,147,483,647 was a plate of that number.
 ///
 /// There are 1 to 127 records and at most 64 taxa. A link (next or first) that isn't 0 names a
 /// later record. The next of record 1 is 0, and each other record is named by exactly one link.
@@ -131,7 +143,34 @@ impl Outline {
         self.records().filter(Record::is_taxon)
     }
 
-    /// The taxon that has a plate.
+    /// The outline with these plates locked beside those that are: for one that was read from text,
+    /// which has no locks. `None` if no taxon has one of the plates.
+    ///
+    /// ```
+    /// use plates::{Outline, Way};
+    ///
+    /// let prices = [(11, 3), (12, 1), (13, 2)];
+    /// let outline = Outline::from_newick("((11:4,12:2):3,13:5);", prices)?;
+    /// let cover = outline.with_locked([11]).expect("plate 11 is there");
+    /// let choice = cover.choose(4, Way::Rooted)?;
+    /// let plates: Vec<u32> = choice.taxa().iter().map(|taxon| taxon.plate).collect();
+    /// assert_eq!(plates, [11, 12]);
+    /// assert_eq!(outline.with_locked([11, 14]), None);
+    /// # Ok::<(), plates::Refusal>(())
+    /// ```
+    #[must_use]
+    pub fn with_locked(&self, plates: impl IntoIterator<Item = u32>) -> Option<Outline> {
+        let mut locked = self.clone();
+        for plate in plates {
+            let number = self.find(plate)?.number as usize;
+            // bit 31 of the field, in the record's last byte
+            locked.bytes[RECORD_BYTES * number - 1] |= 0x80;
+        }
+        Some(locked)
+    }
+
+    /// The taxon that has a plate, locked or not. `None` if no taxon has it, so for every number
+    /// above [`MOST_PLATE`].
     ///
     /// ```
     /// use plates::Tree;

@@ -7,13 +7,13 @@ use std::fmt;
 /// is given; reading a text has an order of its own, which
 /// [`Outline::from_newick`](crate::Outline::from_newick) says.
 ///
-/// The library's table of refusals grows: later versions add numbers from 12 on. So a `match` has
+/// The library's table of refusals grows: later versions add numbers from 13 on. So a `match` has
 /// an arm for the rest, and a number that these bindings do not know is a refusal all the same, as
 /// [`Other`](Refusal::Other).
 ///
 /// Through the safe interface only some of them arise: the bytes of an [`Outline`](crate::Outline)
 /// are refused with numbers 2, 3 and 5 to 8, a text with 3, 5, 7, 8, 10 and 11, choosing with
-/// number 4. Numbers 1 and 9 are for those who call [`sys`](crate::sys).
+/// numbers 4 and 12. Numbers 1 and 9 are for those who call [`sys`](crate::sys).
 ///
 /// ```
 /// use plates::{Outline, Refusal};
@@ -37,7 +37,9 @@ pub enum Refusal {
     /// 4: the page count is above 4,096.
     CountTooLarge,
     /// 5: a length, price or plate is outside its range: a length above 1,000,000, a price above
-    /// 65,535, a taxon's plate that is 0, or a group's that is not.
+    /// 65,535, a taxon's plate that is 0, locked or not, or a group's plate field that is not 0,
+    /// bit 31 included. In a [`Tree`](crate::Tree) also a plate above 2,147,483,647, for which a
+    /// record has no room.
     FieldOutOfRange {
         /// The lowest such record, from 1.
         record: u32,
@@ -50,7 +52,7 @@ pub enum Refusal {
     },
     /// 7: the outline has more than 64 taxa.
     TooManyTaxa,
-    /// 8: a plate that an earlier taxon has.
+    /// 8: a plate that an earlier taxon has, whatever their locks.
     DuplicatePlate {
         /// The lowest such record, from 1: the later of the two.
         record: u32,
@@ -63,6 +65,9 @@ pub enum Refusal {
     /// 11: a taxon of the text has no price or more than one, or a price is for a plate that no
     /// taxon has; through [`sys`](crate::sys) also that the count of pair numbers is odd.
     BadPairs,
+    /// 12: no set that has every locked taxon fits the page count: the locked taxa themselves, with
+    /// the headings above them, cost more.
+    LockedTooDear,
     /// A number that these bindings do not know, from a later version of the library. A later
     /// version of the bindings may have a name for it.
     #[non_exhaustive]
@@ -103,6 +108,7 @@ impl Refusal {
             9 => Refusal::BufferTooShort,
             10 => Refusal::BadText,
             11 => Refusal::BadPairs,
+            12 => Refusal::LockedTooDear,
             _ => Refusal::Other { number, place },
         })
     }
@@ -130,6 +136,7 @@ impl Refusal {
             Refusal::BufferTooShort => 9,
             Refusal::BadText => 10,
             Refusal::BadPairs => 11,
+            Refusal::LockedTooDear => 12,
             Refusal::Other { number, .. } => number,
         }
     }
@@ -170,6 +177,9 @@ impl fmt::Display for Refusal {
             Refusal::BadText => "the text is no tree in Newick form, or has more than 16384 bytes",
             Refusal::BadPairs => {
                 "a taxon has no price or more than one, or a price is for a plate that no taxon has"
+            }
+            Refusal::LockedTooDear => {
+                "the locked taxa, with the headings above them, cost more than the page count"
             }
             Refusal::Other { number, .. } => {
                 return write!(f, "refusal {number}, which these bindings do not know");

@@ -69,7 +69,8 @@ extern "C" {
     pub fn plates_check(outline: *const u8, outline_len: usize, place: *mut u32) -> u32;
 
     /// Gives the record number of the taxon that has a plate; 0 if none has, or the outline is
-    /// refused.
+    /// refused. The lock is no part of the plate, so none has one above
+    /// [`MOST_PLATE`](crate::MOST_PLATE).
     ///
     /// # Safety
     ///
@@ -78,7 +79,8 @@ extern "C" {
 
     /// Chooses the best taxa for a page count: gives 0 or the refusal's number, and in any case
     /// writes the six numbers of `answer` (number, place, diversity, cost, taxa, spare). Unless it
-    /// refuses, it also writes `marks` and `curve`, and leaves `work` cleared.
+    /// refuses, it also writes `marks` and `curve`, and leaves `work` cleared. In `curve` a count
+    /// that no set fits, since the locked taxa cost more, has diversity 0 and cost [`u32::MAX`].
     ///
     /// # Safety
     ///

@@ -1,6 +1,6 @@
 //! Building outlines by nesting.
 
-use crate::outline::{Outline, MOST_RECORDS, RECORD_BYTES};
+use crate::outline::{Outline, LOCK, MOST_PLATE, MOST_RECORDS, RECORD_BYTES};
 use crate::refusal::Refusal;
 use std::error::Error;
 use std::fmt;
@@ -47,7 +47,7 @@ struct Node {
 #[derive(Clone, Copy, Debug, PartialEq)]
 enum Kind {
     Group,
-    Taxon { plate: u32 },
+    Taxon { plate: u32, locked: bool },
 }
 
 // A tree that is too large is cut down to one node more than an outline can have: enough to be
@@ -55,12 +55,36 @@ enum Kind {
 const MOST_NODES: usize = MOST_RECORDS + 1;
 
 impl Tree {
-    /// A taxon with a plate (1 or more), the length of the branch above it (at most 1,000,000), and
-    /// its price in quarter pages (at most 65,535). One of price 0 is always chosen where all groups
-    /// above it have price 0 too.
+    /// A taxon with a plate (1 to [`MOST_PLATE`]), the length of the branch above it (at most
+    /// 1,000,000), and its price in quarter pages (at most 65,535). One of price 0 is always chosen
+    /// where all groups above it have price 0 too.
     pub fn taxon(plate: u32, length: u32, price: u32) -> Tree {
+        Tree::leaf(plate, false, length, price)
+    }
+
+    /// A locked taxon, which must be in the guide, such as a species on its jacket: with a plate, a
+    /// length and a price as [`taxon`](Tree::taxon) has them. Every choice has it, whatever it
+    /// costs, and a page count that the locked taxa do not fit is refused.
+    ///
+    /// ```
+    /// use plates::{Refusal, Tree, Way};
+    ///
+    /// let family = Tree::group(3, [Tree::taxon(11, 4, 3), Tree::taxon(12, 2, 1)]);
+    /// let outline = Tree::group(0, [family, Tree::locked_taxon(13, 5, 2)]).outline()?;
+    ///
+    /// // without the lock it would be plate 12: as much diversity, for a quarter less
+    /// let choice = outline.choose(2, Way::Rooted)?;
+    /// assert_eq!(choice.taxa(), [outline.find(13).unwrap()]);
+    /// assert_eq!(outline.choose(1, Way::Rooted), Err(Refusal::LockedTooDear));
+    /// # Ok::<(), Box<dyn std::error::Error>>(())
+    /// ```
+    pub fn locked_taxon(plate: u32, length: u32, price: u32) -> Tree {
+        Tree::leaf(plate, true, length, price)
+    }
+
+    fn leaf(plate: u32, locked: bool, length: u32, price: u32) -> Tree {
         let node = Node {
-            kind: Kind::Taxon { plate },
+            kind: Kind::Taxon { plate, locked },
             length,
             price,
             below: 0,
@@ -125,7 +149,7 @@ impl Tree {
     /// Otherwise [`TreeError::Refused`] with the first of these that holds:
     /// [`Refusal::TooManyRecords`], [`Refusal::FieldOutOfRange`], [`Refusal::TooManyTaxa`],
     /// [`Refusal::DuplicatePlate`]. No other refusal arises: the records are whole and their links
-    /// are made here.
+    /// are made here. A plate above [`MOST_PLATE`] is out of range, and does not become a lock.
     ///
     /// ```
     /// use plates::{Refusal, Tree, TreeError};
@@ -161,17 +185,29 @@ impl Node {
         } else {
             number + self.below + 1
         };
-        let (first, plate) = match self.kind {
+        let (first, plate_field) = match self.kind {
             Kind::Group => (number + 1, 0),
-            Kind::Taxon { plate } => (0, plate),
+            Kind::Taxon { plate, locked } => (0, plate_field(plate, locked)),
         };
         let mut bytes = [0; RECORD_BYTES];
         bytes[0..2].copy_from_slice(&next.to_le_bytes()[..2]);
         bytes[2..4].copy_from_slice(&first.to_le_bytes()[..2]);
         bytes[4..8].copy_from_slice(&self.length.to_le_bytes());
         bytes[8..12].copy_from_slice(&self.price.to_le_bytes());
-        bytes[12..16].copy_from_slice(&plate.to_le_bytes());
+        bytes[12..16].copy_from_slice(&plate_field.to_le_bytes());
         bytes
+    }
+}
+
+// A plate that is out of range has bit 31, which would be taken for a lock. It is written as 0, so
+// that the library refuses this record's field in its turn.
+fn plate_field(plate: u32, locked: bool) -> u32 {
+    if plate > MOST_PLATE {
+        0
+    } else if locked {
+        LOCK | plate
+    } else {
+        plate
     }
 }
 

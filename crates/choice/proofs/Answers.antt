@@ -1,6 +1,6 @@
 -- What a call keeps that no row of the table refuses, and the two ways to answer a call.
 use Prim.Native.Nat.{ℕ, _≤_}
-use mathlib.Core.Path.{_≡_, refl, sym}
+use mathlib.Core.Path.{_≡_, refl, sym, _∙_}
 use mathlib.Core.Logic.{_⊎_, inl, inr}
 use mathlib.Core.Bool.{Bool, true, false, _&&_, not, false≢true}
 use mathlib.Core.List.{List, _++_}
@@ -18,6 +18,8 @@ use Rattle.refusals.proofs.Placed.{Placed, row-placed, then-placed}
 use Rattle.outline.specs.Refusals.{mostRecords, sizeRows, recordRows}
 use Rattle.outline.proofs.Kept.{rows-kept}
 use Rattle.outline.proofs.Placed.{sizes-placed, records-placed}
+use Rattle.diversity.specs.Search.{noneFits}
+use Rattle.laws.proofs.Optimum.{none-exactly}
 use Rattle.choice.specs.Answer.{Call, Answered, refused, told, mostCount, workTaken, tooShort, judged, isSelected, selected, reply}
 use Rattle.choice.specs.Answer.{curveOf, marksAfter, curveAfter, workAfter}
 use Rattle.choice.specs.Inner.{Solvable, Solved}
@@ -31,6 +33,7 @@ module _ (c : Call) where
     low : c .count ≤ mostCount
     rows : recordRows (c .outline) .number ≡ 0
     long : tooShort c ≡ false
+    some-fit : noneFits (c .outline) (c .way) (c .count) ≡ false
 
   rows-pass : isSelected c ≡ true → Passes
   unfolding judged
@@ -39,12 +42,14 @@ module _ (c : Call) where
       let three = both-pass _ _ (one .1) in
       let four = both-pass _ _ (three .1) in
       let eight = both-pass _ _ (four .1) in
+      let nine = both-pass _ _ (eight .1) in
       record {
         ways = row-fails _ _ (one .0);
         sizes = three .0;
         low = ltb-false _ _ (row-fails _ _ (four .0));
         rows = eight .0;
-        long = row-fails _ _ (eight .1);
+        long = row-fails _ _ (nine .0);
+        some-fit = row-fails _ _ (nine .1);
       }
 
   pub way-known : isSelected c ≡ true → (c .way ≡ 0) ⊎ (c .way ≡ 1)
@@ -64,6 +69,7 @@ module _ (c : Call) where
       record {
         kept = rows-kept (c .outline) (p .sizes) (p .rows);
         low = p .low;
+        locked-fit = ltb-false _ _ (sym (none-exactly _ _ _) ∙ p .some-fit);
         marks-long = ltb-false _ _ (short .0);
         curve-long = ltb-false _ _ (rest .0);
         work-long = ltb-false _ _ (rest .1);
@@ -96,7 +102,14 @@ module _ (c : Call) where
     pub part-solvable : Solvable (withWork n)
     part-solvable =
         let s = selected-solvable e in
-        record { kept = s .kept; low = s .low; marks-long = s .marks-long; curve-long = s .curve-long; work-long = omega (arith, part-long) }
+        record {
+          kept = s .kept;
+          low = s .low;
+          locked-fit = s .locked-fit;
+          marks-long = s .marks-long;
+          curve-long = s .curve-long;
+          work-long = omega (arith, part-long);
+        }
 
     -- a selection
     pub solved-answered : {answer : Answer} {marks curve work : List ℕ} → Solved (withWork n) answer marks curve work
@@ -131,7 +144,8 @@ module _ (c : Call) where
       (λ _. then-placed mostRecords (sizeRows (c .outline)) _ (sizes-placed (c .outline))
       (λ sized. then-placed mostRecords (row 4 large) _ (row-placed mostRecords 4 large (omega arith))
       (λ _. then-placed mostRecords (recordRows (c .outline)) _ (records-placed (c .outline) sized)
-      (λ _. row-placed mostRecords 9 (tooShort c) (omega arith)))))
+      (λ _. then-placed mostRecords (row 9 (tooShort c)) _ (row-placed mostRecords 9 (tooShort c) (omega arith))
+      (λ _. row-placed mostRecords 12 (noneFits (c .outline) (c .way) (c .count)) (omega arith))))))
 
   pub reply-place-most : reply c .place ≤ mostRecords
   unfolding reply selected

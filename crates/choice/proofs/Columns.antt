@@ -1,14 +1,16 @@
 -- The columns of a curve, number by number, and reading them leftwards.
 use Prim.Native.Nat.{ℕ, zero, suc, _+_, _*_, _-_, _≤_, _<_}
 use mathlib.Core.Path.{_≡_, refl, sym, ap, _∙_}
+use mathlib.Core.Bool.{Bool, true, false, _||_, _&&_, not}
 use mathlib.Core.List.{List}
 use native.Mathlib.Omega.{arith}
+use lib.Dec.{eqb}
 use lib.ListN.{length, getD, set}
-use borrow.Author.Tests.{eq-eqb, ne-eqb}
 use Rattle.lists.specs.Lists.{from, over}
 use Rattle.lists.proofs.Buffers.{Rising, rising-starts, rising-goes, rising-ends}
-use Rattle.diversity.specs.Search.{columnsAlike}
-use Rattle.choice.specs.Answer.{columns}
+use Rattle.diversity.specs.Search.{blankCost, columnsAlike}
+use Rattle.choice.specs.Answer.{columns, diversityAt, costAt}
+use Rattle.choice.specs.Inner.{level}
 
 module _ (d c : ℕ → ℕ) where
   pub columns-long : (k n : ℕ) → length (columns d c (from k n)) ≡ 2 * n
@@ -54,10 +56,10 @@ module _ (d c : ℕ → ℕ) where
   drawing-ends {n} h l = rising-ends h (omega (arith, columns-long 0 n))
 
 -- columns that agree up to n
-pub alike-ext : (f g : ℕ → ℕ) (d n : ℕ) → ((b : ℕ) → b < n → f b ≡ g b) → columnsAlike f d n ≡ columnsAlike g d n
+pub alike-ext : (f g : ℕ → Bool) (n : ℕ) → ((b : ℕ) → b < n → f b ≡ g b) → columnsAlike f n ≡ columnsAlike g n
 unfolding columnsAlike
-alike-ext f g d zero h = refl
-alike-ext f g d (suc n) h = rw (h n (omega arith), alike-ext f g d n (λ b l. h b (omega arith)))
+alike-ext f g zero h = refl
+alike-ext f g (suc n) h = rw (h n (omega arith), alike-ext f g n (λ b l. h b (omega arith)))
 
 pub columns-ext : (d c e f : ℕ → ℕ) (k n : ℕ) → ((b : ℕ) → b < k + n → (d b ≡ e b) × (c b ≡ f b))
     → columns d c (from k n) ≡ columns e f (from k n)
@@ -67,32 +69,41 @@ columns-ext d c e f k (suc n) h =
     let same = h k (omega arith) in
     rw (same .0, same .1, columns-ext d c e f (k + 1) n (λ b l. h b (omega arith)))
 
--- a loop's invariant: the columns from b up to n have diversity d
-pub record Level (curve : ℕ → ℕ) (d n b : ℕ) : Type 0 where
+-- a loop's invariant: the columns from b up to n pass a test
+pub record Level (alike : ℕ → Bool) (n b : ℕ) : Type 0 where
   pub most : b ≤ n
-  pub whole : columnsAlike curve d n ≡ n - b + columnsAlike curve d b
+  pub whole : columnsAlike alike n ≡ n - b + columnsAlike alike b
 
-pub level-starts : (curve : ℕ → ℕ) (d n : ℕ) → Level curve d n n
-level-starts curve d n = record { most = omega arith; whole = omega arith }
+pub level-starts : (alike : ℕ → Bool) (n : ℕ) → Level alike n n
+level-starts alike n = record { most = omega arith; whole = omega arith }
 
-module _ {curve : ℕ → ℕ} {d n b : ℕ} (h : Level curve d n b) (nz : b ≡ 0 → ⊥) where
-  before : columnsAlike curve d b ≡ columnsAlike curve d (suc (b - 1))
-  before = ap (columnsAlike curve d) (omega arith)
+module _ {alike : ℕ → Bool} {n b : ℕ} (h : Level alike n b) (nz : b ≡ 0 → ⊥) where
+  before : columnsAlike alike b ≡ columnsAlike alike (suc (b - 1))
+  before = ap (columnsAlike alike) (omega arith)
 
-  pub level-goes : curve (b - 1) ≡ d → Level curve d n (b - 1)
+  pub level-goes : alike (b - 1) ≡ true → Level alike n (b - 1)
   unfolding columnsAlike
   level-goes e =
-      let step : columnsAlike curve d b ≡ suc (columnsAlike curve d (b - 1)) = before ∙ rw (eq-eqb (curve (b - 1)) d e) in
+      let step : columnsAlike alike b ≡ suc (columnsAlike alike (b - 1)) = before ∙ rw e in
       record { most = omega (arith, h .most); whole = omega (arith, h .most, h .whole) }
 
-  -- it ends where the diversity drops
-  pub level-drops : (curve (b - 1) ≡ d → ⊥) → n - b ≡ columnsAlike curve d n
+  -- it ends where the test fails
+  pub level-drops : alike (b - 1) ≡ false → n - b ≡ columnsAlike alike n
   unfolding columnsAlike
-  level-drops e =
-      let none : columnsAlike curve d b ≡ 0 = before ∙ rw (ne-eqb (curve (b - 1)) d e) in
-      omega (arith, h .whole)
+  level-drops e = let none : columnsAlike alike b ≡ 0 = before ∙ rw e in omega (arith, h .whole)
 
 -- or at column 0
-pub level-ends : {curve : ℕ → ℕ} {d n b : ℕ} → Level curve d n b → b ≡ 0 → n - 0 ≡ columnsAlike curve d n
+pub level-ends : {alike : ℕ → Bool} {n b : ℕ} → Level alike n b → b ≡ 0 → n - 0 ≡ columnsAlike alike n
 unfolding columnsAlike
-level-ends {curve} {d} {n} {b} h z = let none : columnsAlike curve d b ≡ 0 = ap (columnsAlike curve d) z in omega (arith, h .whole)
+level-ends {alike} {n} {b} h z = let none : columnsAlike alike b ≡ 0 = ap (columnsAlike alike) z in omega (arith, h .whole)
+
+-- the test of a curve's column, turned round
+pub level-not : (curve : List ℕ) (d b : ℕ) {t : Bool} → (eqb (costAt curve b) blankCost || not (eqb (diversityAt curve b) d)) ≡ t
+    → level curve d b ≡ not t
+unfolding level
+level-not curve d b e = sym (turned (eqb (costAt curve b) blankCost) (eqb (diversityAt curve b) d)) ∙ ap not e
+  where
+    turned : (p q : Bool) → not (p || not q) ≡ (not p && q)
+    turned true q = refl
+    turned false true = refl
+    turned false false = refl

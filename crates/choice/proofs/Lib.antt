@@ -3,4 +3,5 @@ pub mod Answers
 pub mod Columns
 pub mod Demands
 pub mod Digits
+pub mod Shown
 pub mod Solving

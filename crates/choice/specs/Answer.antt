@@ -10,7 +10,7 @@ use Rattle.refusals.specs.Refusals.{Told, tells, refusal, row, _▸_, after}
 use Rattle.outline.specs.Outline.{size}
 use Rattle.outline.specs.Refusals.{sizeRows, recordRows}
 use Rattle.diversity.specs.Diversity.{diversity, cost, chosenTaxa}
-use Rattle.diversity.specs.Search.{optimum, bestDiversity, leastCost, spare}
+use Rattle.diversity.specs.Search.{optimum, noneFits, bestDiversity, leastCost, spare}
 use Rattle.choice.specs.declared.answer.Answer.{Answer}
 
 -- a call: the outline, the page count, the way, and the lent buffers as they came in
@@ -71,7 +71,7 @@ tooShort c =
     ltb (length (c .marks)) (marksTaken (c .outline))
     || (ltb (length (c .curve)) (curveTaken (c .count)) || ltb (length (c .work)) (workTaken (c .outline) (c .count)))
 
--- judged from 1 to 9; the first that holds is given
+-- judged from 1 to 9, and then 12: no set that holds every locked taxon fits the page count; the first that holds is given
 unfoldable pub judged : Call → Told
 judged c =
     row 1 (not (eqb (c .way) 0) && not (eqb (c .way) 1))
@@ -79,6 +79,7 @@ judged c =
     ▸ row 4 (ltb mostCount (c .count))
     ▸ recordRows (c .outline)
     ▸ row 9 (tooShort c)
+    ▸ row 12 (noneFits (c .outline) (c .way) (c .count))
 
 -- no row holds: the answer is a selection
 abbrev pub isSelected : Call → Bool

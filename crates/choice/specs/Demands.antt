@@ -8,8 +8,8 @@ use Rattle.refusals.specs.Table.{Row, whole, Decided}
 use Rattle.outline.specs.Outline.{size}
 use Rattle.outline.specs.Table.{sizeTable, recordTable}
 use Rattle.diversity.specs.Diversity.{diversity, cost, chosenTaxa}
-use Rattle.diversity.specs.Behind.{IsSet, Fits, Behind}
-use Rattle.diversity.specs.Search.{holding, exhaustiveSearch, bestDiversity, leastCost}
+use Rattle.diversity.specs.Behind.{IsSet, Fits, NoneFits, Behind}
+use Rattle.diversity.specs.Search.{holding, exhaustiveSearch, blankCost, bestDiversity, leastCost}
 use Rattle.choice.specs.Answer.{Call, Reply, toldOf, othersOf, mostCount, marksTaken, curveTaken, workTaken, diversityAt, costAt}
 
 -- refusal 9: marks, curve or work shorter than what a call takes
@@ -18,7 +18,7 @@ TooShort c =
     (length (c .marks) < marksTaken (c .outline))
     ⊎ ((length (c .curve) < curveTaken (c .count)) ⊎ (length (c .work) < workTaken (c .outline) (c .count)))
 
--- document 01's table for a call, judged from 1 to 9; beside each row the table's word for it
+-- document 01's table for a call, judged from 1 to 9, and document 02's row 12 after it; beside each row the table's word for it
 abbrev pub chooseTable : Call → List Row
 chooseTable c =
     (whole 1 ((c .way ≢ 0) × (c .way ≢ 1)) ∷ [])  -- way
@@ -26,6 +26,7 @@ chooseTable c =
     ++ (whole 4 (mostCount < c .count) ∷ [])  -- count
     ++ recordTable (c .outline)  -- field, link, crowd, twin
     ++ (whole 9 (TooShort c) ∷ [])  -- space
+    ++ (whole 12 (NoneFits (c .outline) (c .count)) ∷ [])  -- no set that holds every locked taxon fits
 
 -- demand 1: a selection, and no row of the table holds; or exactly one refusal of the table, under its condition only, and then
 -- the four other numbers are 0, and no byte of a buffer is changed
@@ -44,12 +45,17 @@ pub record TrueOfMarks (c : Call) (r : Reply) (marks : List ℕ) : Type 0 where
   pub cost-true : r .cost ≡ cost (c .outline) (markedSet c marks)
   pub taxa-true : r .taxa ≡ chosenTaxa (c .outline) (markedSet c marks)
 
+-- a column shows the two numbers of a set that fits; or no set fits, and it shows 0 and 4,294,967,295
+pub data Shown (c : Call) (curve : List ℕ) (b : ℕ) : Type 0 where
+  some-set : (t : List ℕ) → IsSet (c .outline) t → Fits (c .outline) b t
+      → diversity (c .outline) (c .way) t ≡ diversityAt curve b → cost (c .outline) t ≡ costAt curve b → Shown c curve b
+  no-set : NoneFits (c .outline) b → diversityAt curve b ≡ 0 → costAt curve b ≡ blankCost → Shown c curve b
+
 -- a column shows the exhaustive search's two numbers: the greatest diversity among all sets that fit, and the least cost
--- among those of that diversity
+-- among those of that diversity. A set fits if its cost is at most the column's page count and it holds every locked taxon
 pub record TrueColumn (c : Call) (curve : List ℕ) (b : ℕ) : Type 0 where
   pub searched : (diversityAt curve b ≡ bestDiversity (c .outline) (c .way) b) × (costAt curve b ≡ leastCost (c .outline) (c .way) b)
-  pub some-set : (t : List ℕ) × IsSet (c .outline) t × Fits (c .outline) b t
-      × (diversity (c .outline) (c .way) t ≡ diversityAt curve b) × (cost (c .outline) t ≡ costAt curve b)
+  pub shown : Shown c curve b
   pub greatest : (t : List ℕ) → IsSet (c .outline) t → Fits (c .outline) b t → diversity (c .outline) (c .way) t ≤ diversityAt curve b
   pub least : (t : List ℕ) → IsSet (c .outline) t → Fits (c .outline) b t → diversity (c .outline) (c .way) t ≡ diversityAt curve b
       → costAt curve b ≤ cost (c .outline) t

@@ -1,8 +1,9 @@
-// The table of refusals, whole: rows 1 to 9 in their order.
+// The table of refusals, whole: rows 1 to 9 in their order, and row 12.
 ghost use mathlib.Core.Path.{_≡_};
 ghost use Rattle.refusals.specs.Refusals.{told};
 ghost use Rattle.choice.specs.Answer.{call, workTaken, judged};
 ghost use Rattle.choice.specs.Inner.{Small};
+use measures::locked_cost;
 use outline::checker::check_records;
 use outline::checker::check_size;
 use refusals::verdict::Refusal;
@@ -49,6 +50,9 @@ pub fn judge(
     let work_short = work.len() < work_taken(outline, count);
     if marks_short | (curve_short | work_short) {
         return Verdict::Refused(Refusal::BufferTooShort);
+    }
+    if count < locked_cost(outline) {
+        return Verdict::Refused(Refusal::LockedTooDear);
     }
     Verdict::Accepted
 }

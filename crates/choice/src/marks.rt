@@ -4,8 +4,6 @@ ghost use Prim.Native.Nat.{_≤_};
 ghost use lib.ListN.{length};
 ghost use Rattle.lists.specs.Lists.{over};
 ghost use Rattle.outline.specs.Outline.{size};
-ghost use Rattle.outline.specs.Refusals.{mostRecords};
-ghost use Rattle.diversity.specs.Diversity.{chosenTaxa};
 ghost use Rattle.laws.specs.Numbers.{decode};
 use outline::fields::is_taxon;
 
@@ -25,19 +23,4 @@ pub fn write_marks(o: &[u8], set: u64, marks: &mut [u8])
         }
         r -= 1;
     }
-}
-
-// How many records are marked.
-pub fn marked(o: &[u8], marks: &[u8]) -> u32
-    requires { ⌜ (size (now o) ≤ mostRecords) × (size (now o) ≤ length (now marks)) ⌝ }
-    ensures { λ v. ⌜ v ≡ chosenTaxa (now (o .entry)) (now (marks .entry)) ⌝ }
-{
-    let n = o.len() / 16;
-    let mut sum = 0;
-    let mut r = 1;
-    while r <= n {
-        sum += (marks[r - 1] == 1) as u32;
-        r += 1;
-    }
-    sum
 }

@@ -5,6 +5,7 @@
 // and how many numbers of work, from the first on, are 0.
 mod headings;
 mod limits;
+mod locks;
 mod refused;
 mod show;
 mod starred;
@@ -35,4 +36,14 @@ fn main() {
     headings::prices();
     headings::records();
     headings::counts();
+    locks::one_lock();
+    locks::alone();
+    locks::all_locked();
+    locks::under_headings();
+    locks::no_diversity();
+    locks::alike();
+    locks::twins();
+    locks::order();
+    locks::records();
+    locks::counts();
 }

@@ -24,12 +24,39 @@ fn work_number(x: u64) -> u32 {
     4294967295
 }
 
-// The marks after those of n records.
-fn compare_marks_after(marks: &Marks, n: usize, count: u32) -> Tally {
+// What a call writes: so many marks, columns of the curve, and rows of work.
+pub struct Written {
+    pub marks: usize,
+    pub columns: usize,
+    pub rows: usize,
+}
+
+impl Written {
+    // A selection from n records.
+    pub fn selection(n: usize, count: u32) -> Self {
+        Self {
+            marks: n,
+            columns: count as usize + 1,
+            rows: wrapping_add_usize(n, 2),
+        }
+    }
+
+    // A refusal.
+    pub fn nothing() -> Self {
+        Self {
+            marks: 0,
+            columns: 0,
+            rows: 0,
+        }
+    }
+}
+
+// The marks that are not written.
+fn compare_marks_after(marks: &Marks, written: usize, count: u32) -> Tally {
     let mut tally = Tally::none();
     let mut i = 0;
     while i < 12 {
-        if n <= i {
+        if written <= i {
             tally = tally.with(b"mark at", count, i, UNTOUCHED, mark_number(marks[i]));
         }
         i += 1;
@@ -37,13 +64,12 @@ fn compare_marks_after(marks: &Marks, n: usize, count: u32) -> Tally {
     tally
 }
 
-// The numbers after those of the curve's columns.
-fn compare_curve_after(curve: &Curve, count: u32) -> Tally {
-    let written = 2 * (count as usize + 1);
+// The numbers of the curve that are not written.
+fn compare_curve_after(curve: &Curve, columns: usize, count: u32) -> Tally {
     let mut tally = Tally::none();
     let mut i = 0;
     while i < 92 {
-        if written <= i {
+        if columns <= i / 2 {
             tally = tally.with(b"number of the curve at", count, i, UNTOUCHED, curve[i]);
         }
         i += 1;
@@ -51,29 +77,34 @@ fn compare_curve_after(curve: &Curve, count: u32) -> Tally {
     tally
 }
 
-// What number i of work should be. A selection takes n + 2 rows, of 4 numbers to a column.
-fn wanted_work(i: usize, n: usize, count: u32) -> u32 {
-    let row = 4 * (count as usize + 1);
-    if i / row < wrapping_add_usize(n, 2) {
+// What number i of work should be. A row has 4 numbers to a column.
+fn wanted_work(i: usize, rows: usize, count: u32) -> u32 {
+    if i / (4 * (count as usize + 1)) < rows {
         return 0;
     }
     UNTOUCHED
 }
 
-fn compare_work(work: &Work, n: usize, count: u32) -> Tally {
+fn compare_work(work: &Work, rows: usize, count: u32) -> Tally {
     let mut tally = Tally::none();
     let mut i = 0;
     while i < 2350 {
-        let want = wanted_work(i, n, count);
+        let want = wanted_work(i, rows, count);
         tally = tally.with(b"number of work at", count, i, want, work_number(work[i]));
         i += 1;
     }
     tally
 }
 
-// All three buffers after a selection from n records.
-pub fn compare_rest(n: usize, count: u32, marks: &Marks, curve: &Curve, work: &Work) -> Tally {
-    compare_marks_after(marks, n, count)
-        .plus(compare_curve_after(curve, count))
-        .plus(compare_work(work, n, count))
+// All three buffers after a call.
+pub fn compare_rest(
+    written: Written,
+    count: u32,
+    marks: &Marks,
+    curve: &Curve,
+    work: &Work,
+) -> Tally {
+    compare_marks_after(marks, written.marks, count)
+        .plus(compare_curve_after(curve, written.columns, count))
+        .plus(compare_work(work, written.rows, count))
 }

@@ -3,12 +3,17 @@ ghost use Prim.Native.Nat.{_≤_, _<_};
 use super::buffers::Curve;
 use super::buffers::Marks;
 use super::buffers::UNTOUCHED;
+use super::buffers::Work;
+use super::buffers::Written;
 use super::buffers::compare_rest;
 use super::buffers::mark_number;
+use super::exhaustive::NONE;
+use super::exhaustive::Sets;
 use super::exhaustive::Worth;
+use super::exhaustive::cost_at;
+use super::exhaustive::diversity_at;
 use super::exhaustive::incumbents;
 use super::exhaustive::weigh;
-use super::exhaustive::worth_at;
 use super::fields::first;
 use super::fields::has_heading;
 use super::fields::length;
@@ -18,11 +23,14 @@ use super::fields::price;
 use super::sets::Row;
 use super::sets::below;
 use super::sets::cost;
+use super::sets::locked_set;
 use super::sets::set_of;
 use super::sets::sets_of;
 use super::tally::Tally;
 use choice::Answer;
 use choice::choose;
+use refusals::verdict::number_of;
+use refusals::verdict::place_of;
 use samples::outlines::Buffer;
 use samples::outlines::first_bytes;
 use samples::words::say;
@@ -47,14 +55,14 @@ fn compare_curve(
                 b"diversity of column",
                 count,
                 b,
-                worth_at(diversities, incumbent),
+                diversity_at(diversities, incumbent),
                 curve[2 * b],
             );
             tally = tally.with(
                 b"cost of column",
                 count,
                 b,
-                worth_at(costs, incumbent),
+                cost_at(costs, incumbent),
                 curve[2 * b + 1],
             );
         }
@@ -102,6 +110,18 @@ fn compare_answer(answer: Answer, count: u32, diversity: u32, cost: u32, taxa: u
     }
 }
 
+// A call that no set fits: refusal 12, and nothing written.
+fn compare_refused(answer: Answer, count: u32, marks: &Marks, curve: &Curve, work: &Work) -> Tally {
+    let told = match answer {
+        Answer::Refused(refusal) => Tally::none()
+            .with(b"refusal", count, 0, 12, number_of(refusal))
+            .with(b"place", count, 0, 0, (place_of(refusal) != 0) as u32),
+        Answer::Selected { .. } => Tally::none().with(b"refusal", count, 0, 12, 0),
+    };
+    told.plus(compare_rest(Written::nothing(), count, marks, curve, work))
+        .with_refusal()
+}
+
 // One call, at a count up to 44.
 fn compare_call(
     o: &Buffer,
@@ -126,18 +146,16 @@ fn compare_call(
         &mut work[..],
     );
     let incumbent = incumbents[count as usize];
+    if incumbent == NONE {
+        return compare_refused(answer, count, &marks, &curve, &work);
+    }
     let set = set_of(o, incumbent);
     let taxa = below(o, &set)[1];
-    let told = compare_answer(
-        answer,
-        count,
-        worth_at(diversities, incumbent),
-        worth_at(costs, incumbent),
-        taxa,
-    );
+    let diversity = diversity_at(diversities, incumbent);
+    let told = compare_answer(answer, count, diversity, cost_at(costs, incumbent), taxa);
     told.plus(compare_marks(&marks, n, count, &set))
         .plus(compare_curve(&curve, count, diversities, costs, incumbents))
-        .plus(compare_rest(n, count, &marks, &curve, &work))
+        .plus(compare_rest(Written::selection(n, count), count, &marks, &curve, &work))
 }
 
 // Every count up to the sum of prices, and up to 44.
@@ -147,7 +165,11 @@ fn compare_counts(o: &Buffer, n: usize, way: u32) -> Tally
     let mut diversities = [0u32; 64];
     let mut costs = [0u32; 64];
     weigh(o, way, &mut diversities, &mut costs);
-    let incumbents = incumbents(&diversities, &costs, sets_of(o));
+    let sets = Sets {
+        number: sets_of(o),
+        locked: locked_set(o),
+    };
+    let incumbents = incumbents(&diversities, &costs, sets);
     // the cost of all taxa
     let most = cost(o, &set_of(o, 63));
     let mut tally = Tally::none();
@@ -185,6 +207,9 @@ fn compare_way(o: &Buffer, n: usize, way: u32, word: &[u8]) -> Tally
 {
     if has_heading(o) {
         say(b" with headings");
+    }
+    if locked_set(o) != 0 {
+        say(b" with locks");
     }
     say(word);
     let tally = compare_counts(o, n, way);

@@ -1,4 +1,4 @@
-// The best of all sets of at most 6 taxa for each count, found by trying every set.
+// The best of all sets of at most 6 taxa that hold every locked one, for each count, found by trying every set.
 use super::sets::cost;
 use super::sets::diversity;
 use super::sets::set_of;
@@ -7,7 +7,22 @@ use samples::outlines::Buffer;
 // A number for each set, at the set's own number.
 pub type Worth = [u32; 64];
 
-pub fn worth_at(worth: &Worth, set: u32) -> u32 {
+// The number of no set.
+pub const NONE: u32 = 64;
+
+// The diversity and the cost of a set; of no set 0 and 4,294,967,295.
+pub fn diversity_at(diversities: &Worth, set: u32) -> u32 {
+    worth_at(diversities, set)
+}
+
+pub fn cost_at(costs: &Worth, set: u32) -> u32 {
+    if set == NONE {
+        return 4294967295;
+    }
+    worth_at(costs, set)
+}
+
+fn worth_at(worth: &Worth, set: u32) -> u32 {
     if set < 64 {
         return worth[set as usize];
     }
@@ -56,13 +71,35 @@ fn is_better(diversities: &Worth, costs: &Worth, x: u32, y: u32) -> bool {
     has_first(x, y)
 }
 
-// The best of all sets for a count. The incumbent is the best so far, at first the empty set, which fits.
-fn best(diversities: &Worth, costs: &Worth, sets: u32, count: u32) -> u32 {
-    let mut incumbent = 0;
-    let mut k = 1;
-    while k < sets {
-        if worth_at(costs, k) <= count {
-            if is_better(diversities, costs, k, incumbent) {
+// Whether set x has every taxon of y.
+fn holds(x: u32, y: u32) -> bool {
+    let mut a = x;
+    let mut b = y;
+    let mut i: u32 = 0;
+    while i < 6 {
+        if a % 2 < b % 2 {
+            return false;
+        }
+        a = a / 2;
+        b = b / 2;
+        i += 1;
+    }
+    true
+}
+
+// The sets of an outline, by their number, and the set of its locked taxa.
+pub struct Sets {
+    pub number: u32,
+    pub locked: u32,
+}
+
+// The best of all sets for a count. The incumbent is the best so far, at first none.
+fn best(diversities: &Worth, costs: &Worth, sets: Sets, count: u32) -> u32 {
+    let mut incumbent = NONE;
+    let mut k = 0;
+    while k < sets.number {
+        if (worth_at(costs, k) <= count) & holds(k, sets.locked) {
+            if (incumbent == NONE) | is_better(diversities, costs, k, incumbent) {
                 incumbent = k;
             }
         }
@@ -72,7 +109,7 @@ fn best(diversities: &Worth, costs: &Worth, sets: u32, count: u32) -> u32 {
 }
 
 // For each count from 0 to 44 the incumbent at the end.
-pub fn incumbents(diversities: &Worth, costs: &Worth, sets: u32) -> [u32; 45] {
+pub fn incumbents(diversities: &Worth, costs: &Worth, sets: Sets) -> [u32; 45] {
     let mut incumbents = [0u32; 45];
     let mut b: u32 = 0;
     while b < 45 {

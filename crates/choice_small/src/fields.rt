@@ -51,6 +51,15 @@ pub fn plate(o: &Buffer, r: usize) -> u32 {
     0
 }
 
+pub fn is_locked(o: &Buffer, r: usize) -> bool {
+    if 0 < r {
+        if r < 12 {
+            return outline::fields::is_locked(&o[..], r);
+        }
+    }
+    false
+}
+
 // Whether a group has a price above 0.
 pub fn has_heading(o: &Buffer) -> bool {
     let mut r = 1;

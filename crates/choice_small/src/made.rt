@@ -3,11 +3,13 @@ ghost use Prim.Native.Nat.{_≤_};
 use super::compare::rooted;
 use super::compare::unrooted;
 use super::fields::has_heading;
+use super::sets::locked_set;
 use super::tally::Tally;
 use samples::headings::deep_pair;
 use samples::headings::free_pair;
 use samples::headings::headed;
 use samples::headings::two_families;
+use samples::locks::locked;
 use samples::outlines::Buffer;
 use samples::outlines::comb;
 use samples::outlines::one_record;
@@ -25,7 +27,9 @@ fn both(label: &[u8], o: &Buffer, n: usize) -> Tally
     say(label);
     let tally = rooted(o, n);
     say(label);
-    tally.plus(unrooted(o, n)).with_outline(has_heading(o))
+    tally
+        .plus(unrooted(o, n))
+        .with_outline(has_heading(o), locked_set(o) != 0)
 }
 
 // An outline without headings as it is, and with a heading of 1 on each group.
@@ -204,6 +208,52 @@ pub fn interleaved() -> Tally {
     ));
     two.plus(three)
         .plus(twice(b"levels take turns", &levels(), 10))
+}
+
+// An outline with some of its taxa locked, and with all.
+fn locked_twice(label: &[u8], o: &Buffer, n: usize, some: u64) -> Tally
+    requires { ⌜ n ≤ 11 ⌝ }
+{
+    both(label, &locked(o, n, some), n).plus(both(label, &locked(o, n, 63), n))
+}
+
+// Locks: one, two and all three of tree A, without headings and with; locks below dear headings, and of no length.
+pub fn locks() -> Tally {
+    let a = locked_twice(b"tree A, 11 locked", &tree_a(), 5, 1).plus(locked_twice(
+        b"tree A, 12 and 13 locked",
+        &tree_a(),
+        5,
+        6,
+    ));
+    let headings = locked_twice(
+        b"tree A at 1 and 2, 12 locked",
+        &tree_a_with_headings(1, 2),
+        5,
+        2,
+    );
+    let dear = locked_twice(
+        b"tree A at 0 and 65,535, 13 locked",
+        &tree_a_with_headings(0, 65535),
+        5,
+        4,
+    );
+    let families = locked_twice(b"two families, a cousin locked", &two_families(3), 8, 2);
+    let deep = locked_twice(b"a deep pair at 1 and 2", &deep_pair(1, 2), 4, 2);
+    let free = locked_twice(b"a free pair of no length", &free_pair(0, 0, 1), 6, 2);
+    let alike = locked_twice(
+        b"six alike, the last locked",
+        &star(7, 2, 1),
+        7,
+        32,
+    ).plus(locked_twice(b"six of no length", &star(7, 0, 1), 7, 10));
+    let turns = locked_twice(b"levels take turns", &levels(), 10, 9);
+    a.plus(headings)
+        .plus(dear)
+        .plus(families)
+        .plus(deep)
+        .plus(free)
+        .plus(alike)
+        .plus(turns)
 }
 
 // Headings that differ, and headings above any count.

@@ -3,7 +3,9 @@ ghost use Prim.Native.Nat.{_≤_, _<_};
 use super::compare::rooted;
 use super::compare::unrooted;
 use super::fields::has_heading;
+use super::sets::locked_set;
 use super::tally::Tally;
+use samples::locks::locked;
 use samples::outlines::Buffer;
 use samples::outlines::blank;
 use samples::outlines::put;
@@ -115,6 +117,15 @@ fn highest_heading(k: u64) -> u16 {
     }
 }
 
+// Half of the outlines have locks: some taxa, and at times all.
+fn drawn_locks(seed: &mut u64, k: u64) -> u64 {
+    match k % 8 {
+        1 => 63,
+        2 | 5 | 6 => draw(seed, 64) as u64,
+        _ => 0,
+    }
+}
+
 fn both(k: u64, o: &Buffer, n: usize) -> Tally
     requires { ⌜ n ≤ 11 ⌝ }
 {
@@ -123,7 +134,9 @@ fn both(k: u64, o: &Buffer, n: usize) -> Tally
     let tally = rooted(o, n);
     say(b"random ");
     say_number(k);
-    tally.plus(unrooted(o, n)).with_outline(has_heading(o))
+    tally
+        .plus(unrooted(o, n))
+        .with_outline(has_heading(o), locked_set(o) != 0)
 }
 
 pub fn outlines() -> Tally {
@@ -137,7 +150,8 @@ pub fn outlines() -> Tally {
             heading: highest_heading(k),
         };
         let o = outline(&mut seed, n, highest);
-        tally = tally.plus(both(k, &o, n));
+        let locks = drawn_locks(&mut seed, k);
+        tally = tally.plus(both(k, &locked(&o, n, locks), n));
         k += 1;
     }
     tally

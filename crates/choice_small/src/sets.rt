@@ -1,5 +1,6 @@
 // Sets of taxa of a small outline, and what they are worth by the definitions of documents 01 and 02.
 use super::fields::first;
+use super::fields::is_locked;
 use super::fields::length;
 use super::fields::next;
 use super::fields::plate;
@@ -44,6 +45,23 @@ pub fn sets_of(o: &Buffer) -> u32 {
         r += 1;
     }
     sets
+}
+
+// The set of the locked taxa, as a number.
+pub fn locked_set(o: &Buffer) -> u32 {
+    let mut set = 0;
+    let mut digit = 1;
+    let mut r = 1;
+    while r < 12 {
+        if plate(o, r) != 0 {
+            if is_locked(o, r) {
+                set = wrapping_add_u32(set, digit);
+            }
+            digit = wrapping_add_u32(digit, digit);
+        }
+        r += 1;
+    }
+    set
 }
 
 // How many of a set's taxa are at or below each record. A link names a later record, so the later records come first.

@@ -1,4 +1,5 @@
-// How many values were compared and how many were wrong; of how many outlines, and how many of these have a heading.
+// How many values were compared and how many were wrong, and how many calls were refused; of how many outlines, and how many of these
+// have a heading, and a lock.
 use samples::words::say;
 use samples::words::say_number;
 use std::num::wrapping_add_u32;
@@ -6,8 +7,10 @@ use std::num::wrapping_add_u32;
 pub struct Tally {
     pub compared: u32,
     pub wrong: u32,
+    pub refused: u32,
     pub outlines: u32,
     pub headed: u32,
+    pub locked: u32,
 }
 
 impl Tally {
@@ -15,8 +18,10 @@ impl Tally {
         Self {
             compared: 0,
             wrong: 0,
+            refused: 0,
             outlines: 0,
             headed: 0,
+            locked: 0,
         }
     }
 
@@ -24,29 +29,35 @@ impl Tally {
         Self {
             compared: wrapping_add_u32(self.compared, other.compared),
             wrong: wrapping_add_u32(self.wrong, other.wrong),
+            refused: wrapping_add_u32(self.refused, other.refused),
             outlines: wrapping_add_u32(self.outlines, other.outlines),
             headed: wrapping_add_u32(self.headed, other.headed),
+            locked: wrapping_add_u32(self.locked, other.locked),
         }
     }
 
     // With one value more, right or wrong.
     fn with_value(self, wrong: u32) -> Self {
-        self.plus(Self {
-            compared: 1,
-            wrong,
-            outlines: 0,
-            headed: 0,
-        })
+        let mut tally = Tally::none();
+        tally.compared = 1;
+        tally.wrong = wrong;
+        self.plus(tally)
+    }
+
+    // With one call more that is refused.
+    pub fn with_refusal(self) -> Self {
+        let mut tally = Tally::none();
+        tally.refused = 1;
+        self.plus(tally)
     }
 
     // With one outline more.
-    pub fn with_outline(self, has_heading: bool) -> Self {
-        self.plus(Self {
-            compared: 0,
-            wrong: 0,
-            outlines: 1,
-            headed: has_heading as u32,
-        })
+    pub fn with_outline(self, has_heading: bool, has_lock: bool) -> Self {
+        let mut tally = Tally::none();
+        tally.outlines = 1;
+        tally.headed = has_heading as u32;
+        tally.locked = has_lock as u32;
+        self.plus(tally)
     }
 
     // With one value more, which is printed if it is wrong: what it is, at which count, and at which column or record.

@@ -7,7 +7,7 @@ use mathlib.Core.Bool.{true, false}
 use mathlib.Core.List.{List}
 use lib.ListN.{length, getD}
 use Rattle.outline.specs.Outline.{size, isTaxon}
-use Rattle.diversity.specs.Diversity.{chosen, diversity, cost}
+use Rattle.diversity.specs.Diversity.{chosen, diversity, cost, holdsLocked}
 
 -- mark a may stand at record r: 0, or 1 at a taxon
 abbrev pub MarkAt : List ℕ → ℕ → ℕ → Type 0
@@ -18,9 +18,14 @@ pub record IsSet (o s : List ℕ) : Type 0 where
   pub whole : length s ≡ size o
   pub marks : (r : ℕ) → 1 ≤ r → r ≤ size o → MarkAt o r (getD s (r - 1) 0)
 
--- a set fits page count b if its cost is at most b
-abbrev pub Fits : List ℕ → ℕ → List ℕ → Type 0
-Fits o b s = cost o s ≤ b
+-- a set fits page count b if its cost is at most b and it holds every locked taxon
+pub record Fits (o : List ℕ) (b : ℕ) (s : List ℕ) : Type 0 where
+  pub cost-most : cost o s ≤ b
+  pub locked-held : holdsLocked o s ≡ true
+
+-- no set of taxa fits page count b
+abbrev pub NoneFits : List ℕ → ℕ → Type 0
+NoneFits o b = (t : List ℕ) → IsSet o t → Fits o b t → ⊥
 
 -- record at is the first on which s and t differ, and t lacks it
 pub record Lacks (s t : List ℕ) : Type 0 where

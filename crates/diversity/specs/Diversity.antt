@@ -6,7 +6,7 @@ use mathlib.Core.List.{List, [], _∷_, _++_}
 use lib.ListN.{getD}
 use lib.Dec.{eqb}
 use Rattle.lists.specs.Lists.{pick, one, anywhere, total}
-use Rattle.outline.specs.Outline.{size, records, next, first, branch, price}
+use Rattle.outline.specs.Outline.{size, records, next, first, branch, price, locked}
 
 -- the records of the chain that begins at r, and all below them; depth bounds how far to look
 unfoldable pub chain : ℕ → List ℕ → ℕ → List ℕ
@@ -45,6 +45,10 @@ diversity o way s = pick (eqb way 0) (rooted o s) (unrooted o s)
 -- the cost of a set: the sum of prices of records that are, or have below them, a chosen taxon
 unfoldable pub cost : List ℕ → List ℕ → ℕ
 cost o s = total (λ r. pick (within o s r) (price o r) 0) (records o)
+
+-- every locked taxon is chosen
+unfoldable pub holdsLocked : List ℕ → List ℕ → Bool
+holdsLocked o s = not (anywhere (λ r. locked o r && not (chosen s r)) (records o))
 
 -- the number of taxa is the number marked
 unfoldable pub chosenTaxa : List ℕ → List ℕ → ℕ

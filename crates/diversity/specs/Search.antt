@@ -1,12 +1,12 @@
 -- The exhaustive search, document 01's patient editor: it goes through every subset of the taxa and keeps the best that
 -- fits a page count.
 use Prim.Native.Nat.{ℕ, zero, suc}
-use mathlib.Core.Bool.{Bool, false, _||_, _&&_}
+use mathlib.Core.Bool.{Bool, true, false, _||_, _&&_, not}
 use mathlib.Core.List.{List, [], _∷_, _++_, map, foldl}
 use lib.Dec.{eqb, ltb, leb}
 use Rattle.lists.specs.Lists.{pick}
 use Rattle.outline.specs.Outline.{records, isTaxon}
-use Rattle.diversity.specs.Diversity.{diversity, cost}
+use Rattle.diversity.specs.Diversity.{diversity, cost, holdsLocked}
 
 -- every set of taxa among the given records: 0 at a group, 0 or 1 at a taxon
 unfoldable pub subsets : List ℕ → List ℕ → List (List ℕ)
@@ -36,17 +36,26 @@ pub data Incumbent : Type 0 where
   nothing : Incumbent
   holding : List ℕ → Incumbent
 
--- a set that doesn't fit page count b is passed over; one that fits is taken in hand if nothing is there, or if it is better
+-- a set fits page count b if its cost is at most b and it holds every locked taxon
+unfoldable pub fits : List ℕ → ℕ → List ℕ → Bool
+fits o b s = leb (cost o s) b && holdsLocked o s
+
+-- a set that doesn't fit is passed over; one that fits is taken in hand if nothing is there, or if it is better
 -- than the one there
 unfoldable pub turn : List ℕ → ℕ → ℕ → Incumbent → List ℕ → Incumbent
-turn o way b nothing s = pick (leb (cost o s) b) (holding s) nothing
-turn o way b (holding t) s = pick (leb (cost o s) b && better o way s t) (holding s) (holding t)
+turn o way b nothing s = pick (fits o b s) (holding s) nothing
+turn o way b (holding t) s = pick (fits o b s && better o way s t) (holding s) (holding t)
 
 -- the search starts with nothing in hand and goes through every subset of the taxa
 unfoldable pub exhaustiveSearch : List ℕ → ℕ → ℕ → Incumbent
 exhaustiveSearch o way b = foldl (turn o way b) nothing (subsets o (records o))
 
--- the set in hand; the search never ends with nothing there (`search-ends` in laws/proofs/Optimum)
+-- a set is in hand
+unfoldable pub isHolding : Incumbent → Bool
+isHolding nothing = false
+isHolding (holding s) = true
+
+-- the set in hand; with nothing there, no marks
 unfoldable pub setOf : Incumbent → List ℕ
 setOf nothing = []
 setOf (holding s) = s
@@ -55,18 +64,26 @@ setOf (holding s) = s
 unfoldable pub optimum : List ℕ → ℕ → ℕ → List ℕ
 optimum o way b = setOf (exhaustiveSearch o way b)
 
--- column b of the curve: the diversity of the set in hand, then its cost
+-- no set fits: the search ends with nothing in hand
+unfoldable pub noneFits : List ℕ → ℕ → ℕ → Bool
+noneFits o way b = not (isHolding (exhaustiveSearch o way b))
+
+-- the cost that a column shows where no set fits
+abbrev pub blankCost : ℕ
+blankCost = 4294967295
+
+-- column b of the curve: the diversity of the set in hand, then its cost; with nothing in hand 0 and 4,294,967,295
 unfoldable pub bestDiversity : List ℕ → ℕ → ℕ → ℕ
-bestDiversity o way b = diversity o way (optimum o way b)
+bestDiversity o way b = pick (isHolding (exhaustiveSearch o way b)) (diversity o way (optimum o way b)) 0
 
 unfoldable pub leastCost : List ℕ → ℕ → ℕ → ℕ
-leastCost o way b = cost o (optimum o way b)
+leastCost o way b = pick (isHolding (exhaustiveSearch o way b)) (cost o (optimum o way b)) blankCost
 
--- how many columns next to column b on its left have diversity d, read leftwards until it drops, and at most to column 0
-unfoldable pub columnsAlike : (ℕ → ℕ) → ℕ → ℕ → ℕ
-columnsAlike curve d zero = 0
-columnsAlike curve d (suc b) = pick (eqb (curve b) d) (suc (columnsAlike curve d b)) 0
+-- how many columns next to column b on its left a test passes, read leftwards until it fails, and at most to column 0
+unfoldable pub columnsAlike : (ℕ → Bool) → ℕ → ℕ
+columnsAlike alike zero = 0
+columnsAlike alike (suc b) = pick (alike b) (suc (columnsAlike alike b)) 0
 
--- the quarters that can go with the diversity unchanged
+-- the quarters that can go with the diversity unchanged; reading ends before a column with nothing in hand
 unfoldable pub spare : List ℕ → ℕ → ℕ → ℕ
-spare o way b = columnsAlike (bestDiversity o way) (bestDiversity o way b) b
+spare o way b = columnsAlike (λ c. isHolding (exhaustiveSearch o way c) && eqb (bestDiversity o way c) (bestDiversity o way b)) b

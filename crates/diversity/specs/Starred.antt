@@ -3,10 +3,10 @@ use Prim.Native.Nat.{ℕ}
 use mathlib.Core.Path.{_≡_, refl}
 use mathlib.Core.List.{List, [], _∷_, _++_, map}
 use Rattle.lists.specs.Lists.{from, anywhere, total, lowest}
-use Rattle.outline.specs.Outline.{short, long, records, bytes, recordBytes}
+use Rattle.outline.specs.Outline.{short, long, records, locked, bytes, recordBytes}
 use Rattle.outline.specs.Refusals.{badField, naming, named, badLink, taxaIn, taxa, hasPlate, isDuplicate, sizeRows, recordRows, checked}
-use Rattle.diversity.specs.Diversity.{chain, clade, chosen, within, elsewhere, rooted, unrooted, diversity, cost, chosenTaxa}
-use Rattle.diversity.specs.Search.{subsets, leads, better, turn, exhaustiveSearch, setOf, optimum, bestDiversity, leastCost}
+use Rattle.diversity.specs.Diversity.{chain, clade, chosen, within, elsewhere, rooted, unrooted, diversity, cost, holdsLocked, chosenTaxa}
+use Rattle.diversity.specs.Search.{subsets, leads, better, fits, turn, exhaustiveSearch, isHolding, setOf, optimum, bestDiversity, leastCost}
 use Rattle.diversity.specs.Search.{columnsAlike, spare}
 use Rattle.diversity.specs.Cases.{Case, computed, selects, rival, given}
 
@@ -60,6 +60,6 @@ pub starred-hold : map computed starred ≡ starred
 unfolding
     from anywhere total lowest short long records badField naming named badLink taxaIn taxa hasPlate
     isDuplicate sizeRows recordRows checked chain clade chosen within elsewhere rooted unrooted diversity cost
-    chosenTaxa subsets leads better turn exhaustiveSearch setOf optimum bestDiversity leastCost
+    locked holdsLocked chosenTaxa subsets leads better fits turn exhaustiveSearch isHolding setOf optimum bestDiversity leastCost
     columnsAlike spare bytes recordBytes treeA treeB treeC treeD treeE starred
 starred-hold = refl

@@ -10,14 +10,14 @@ use borrow.Author.Tests.{eq-eqb}
 use Rattle.lists.specs.Lists.{pick, one, anywhere, total}
 use Rattle.lists.proofs.Bools.{eqb-comm}
 use Rattle.outline.specs.Outline.{size, first, branch, price, records, isTaxon}
-use Rattle.outline.proofs.Kept.{Linked}
-use Rattle.diversity.specs.Diversity.{clade, chosen, within, elsewhere, rooted, unrooted, cost}
+use Rattle.outline.specs.Kept.{Linked}
+use Rattle.diversity.specs.Diversity.{clade, chosen, within, elsewhere, rooted, unrooted, cost, chosenTaxa}
 use Rattle.diversity.specs.Behind.{IsSet}
 use Rattle.laws.specs.Forest.{Forest, empty, node, sumIn, countIn, tree, isGroup}
 use Rattle.laws.proofs.Sums.{positive, anywhere-count, occurs, occurs-most, total-add, total-zero, total-ext, total-at}
 use Rattle.laws.proofs.Forest.{total-listed, chain-listed, tree-step, members-cases, sum-all, inside, distinct}
 use Rattle.laws.proofs.Marks.{group-unchosen}
-use Rattle.laws.proofs.Measures.{chosenIn, groupsIn, withinIn, costIn, rootedIn, unrootedIn, crossing, crossing-unrooted}
+use Rattle.laws.proofs.Measures.{chosenIn, groupsIn, withinIn, costIn, rootedIn, unrootedIn, crossing, crossing-rooted, crossing-unrooted}
 
 total-clade : (w : ℕ → ℕ) (o : List ℕ) (r : ℕ) → total w (clade o r) ≡ w r + sumIn (λ q f. w q) (tree o (first o r))
 unfolding clade total tree
@@ -122,13 +122,24 @@ module _ (o : List ℕ) (linked : Linked o) (s : List ℕ) where
       each r l u true e = rw (members-cases o linked r l u isGroup false true refl (λ q g m. refl), e, and-false)
       each r l u false e = rw (group-unchosen o s x r l u e)
 
-  pub unrooted-tree : IsSet o s → unrooted o s ≡ unrootedIn o (chosen s) (tree o 1)
+  -- unrooted, a branch counts where some of all chosen records are at or below it and some are not
+  pub unrooted-crossing : unrooted o s ≡ sumIn (crossing o (chosen s) (chosenIn (chosen s) (tree o 1))) (tree o 1)
   unfolding unrooted records
-  unrooted-tree x =
+  unrooted-crossing =
       total-ext _ (λ r. crossing o (chosen s) all r (tree o (first o r))) 1 (size o)
       (λ r l u. ap₂ (λ b c. pick (b && c) (branch o r) 0) (within-count o s r) (elsewhere-count r l (omega arith)))
       ∙ sum-all o linked (crossing o (chosen s) all)
-      ∙ crossing-unrooted o (chosen s) all (tree o 1) (groups-none x) refl
     where
       all : ℕ
       all = chosenIn (chosen s) (tree o 1)
+
+  pub unrooted-tree : IsSet o s → unrooted o s ≡ unrootedIn o (chosen s) (tree o 1)
+  unrooted-tree x = unrooted-crossing ∙ crossing-unrooted o (chosen s) (chosenIn (chosen s) (tree o 1)) (tree o 1) (groups-none x) refl
+
+  -- rooted, as if one more taxon were chosen outside the outline
+  pub rooted-crossing : rooted o s ≡ sumIn (crossing o (chosen s) (1 + chosenIn (chosen s) (tree o 1))) (tree o 1)
+  rooted-crossing = rooted-tree ∙ sym (crossing-rooted o (chosen s) _ 1 (tree o 1) (omega arith) refl)
+
+  pub taxa-tree : chosenTaxa o s ≡ chosenIn (chosen s) (tree o 1)
+  unfolding chosenTaxa
+  taxa-tree = sum-all o linked (λ r f. one (chosen s r))

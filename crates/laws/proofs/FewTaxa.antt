@@ -7,7 +7,7 @@ use native.Mathlib.Omega.{arith}
 use lib.Dec.{eqb}
 use Rattle.lists.specs.Lists.{pick, one, anywhere}
 use Rattle.outline.specs.Outline.{size, records, branch, price}
-use Rattle.outline.proofs.Kept.{Linked}
+use Rattle.outline.specs.Kept.{Linked}
 use Rattle.diversity.specs.Diversity.{clade, chosen, within, elsewhere, rooted, unrooted, diversity, cost, chosenTaxa}
 use Rattle.laws.specs.Forest.{tree}
 use Rattle.laws.proofs.Sums.{positive, total-zero, total-ext, total-uncounted}

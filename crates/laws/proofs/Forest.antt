@@ -8,7 +8,7 @@ use lib.Dec.{eqb}
 use borrow.Author.Tests.{eqb-true, eqb-false}
 use Rattle.lists.specs.Lists.{pick, one, total}
 use Rattle.outline.specs.Outline.{size, next, first, records, isTaxon}
-use Rattle.outline.proofs.Kept.{Linked}
+use Rattle.outline.specs.Kept.{Linked}
 use Rattle.diversity.specs.Diversity.{chain}
 use Rattle.laws.specs.Forest.{Forest, empty, node, sumIn, countIn, shape, tree}
 use Rattle.laws.proofs.Sums.{occurs, occurs-most, total-append}

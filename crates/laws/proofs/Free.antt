@@ -12,11 +12,13 @@ use borrow.Author.Tests.{eqb-true, eqb-false, eq-eqb, ne-eqb}
 use Rattle.lists.specs.Lists.{pick, one, anywhere, total}
 use Rattle.outline.specs.Outline.{size, records, next, first, price, isTaxon}
 use Rattle.diversity.specs.Diversity.{chain, clade, chosen, within, cost}
-use Rattle.diversity.specs.Behind.{MarkAt, IsSet, Behind, less-diversity, more-cost, lacks-first}
+use Rattle.diversity.specs.Behind.{MarkAt, IsSet, Fits, Behind, less-diversity, more-cost, lacks-first}
 use Rattle.diversity.specs.Headings.{Free}
 use Rattle.diversity.specs.Search.{optimum}
 use Rattle.lists.proofs.Bools.{both-false}
+use Rattle.laws.specs.Locks.{lockedSet}
 use Rattle.laws.proofs.Sums.{pick-zero, occurs, total-append, total-ext}
+use Rattle.laws.proofs.Locks.{held-each}
 use Rattle.laws.proofs.More.{Implies, diversity-more}
 use Rattle.laws.proofs.Optimum.{optimum-set, optimum-fits, others-behind}
 
@@ -99,23 +101,32 @@ module _ (o s : List ℕ) (x : IsSet o s) (r : ℕ) (l : 1 ≤ r) (u : r ≤ siz
           (joined-apart (clade o q) e (omega (arith, ap one (ne-eqb 0 q (λ z. omega arith)), no-zero (size o) o (first o q))))
 
 -- a free taxon is always chosen where the groups above it are free too
-pub free-chosen : (o : List ℕ) (way b r : ℕ) → 1 ≤ r → r ≤ size o → isTaxon o r ≡ true → Free o r → chosen (optimum o way b) r ≡ true
-free-chosen o way b r l u taxon free = go (chosen s r) refl
+pub free-chosen : (o : List ℕ) (way b : ℕ) → cost o (lockedSet o) ≤ b → (r : ℕ) → 1 ≤ r → r ≤ size o → isTaxon o r ≡ true → Free o r
+    → chosen (optimum o way b) r ≡ true
+free-chosen o way b fit r l u taxon free = go (chosen s r) refl
   where
     s : List ℕ
     s = optimum o way b
 
+    x : IsSet o s
+    x = optimum-set o way b fit
+
     t : List ℕ
-    t = joined o s (optimum-set o way b) r l u
+    t = joined o s x r l u
 
     more : (q : ℕ) → Implies (chosen s q) (chosen t q)
-    more = joined-more o s (optimum-set o way b) r l u
+    more = joined-more o s x r l u
 
     same-cost : cost o t ≡ cost o s
-    same-cost = joined-cost o s (optimum-set o way b) r l u free
+    same-cost = joined-cost o s x r l u free
 
-    here : chosen t r ≡ true
-    here = joined-has o s (optimum-set o way b) r l u
+    fits : Fits o b t
+    fits =
+        let f = optimum-fits o way b fit in
+        record {
+          cost-most = omega (arith, same-cost);
+          locked-held = held-each o t .1 (λ q m v h. more q (held-each o s .0 (f .locked-held) q m v h));
+        }
 
     not-behind : Behind o way s t → ⊥
     not-behind (less-diversity h) = omega (arith, diversity-more o s t more way)
@@ -125,5 +136,5 @@ free-chosen o way b r l u taxon free = go (chosen s r) refl
     go : (c : Bool) → chosen s r ≡ c → chosen s r ≡ true
     go true e = e
     go false e =
-        absurd (not-behind (others-behind o way b t (joined-set o s (optimum-set o way b) r l u taxon) (omega (arith, same-cost, optimum-fits o way b))
-        (λ same. false≢true (sym e ∙ ap (λ (z : List ℕ). chosen z r) (sym same) ∙ here))))
+        absurd (not-behind (others-behind o way b t (joined-set o s x r l u taxon) fits
+        (λ same. false≢true (sym e ∙ ap (λ (z : List ℕ). chosen z r) (sym same) ∙ joined-has o s x r l u))))

@@ -6,6 +6,7 @@ pub mod Forest
 pub mod Free
 pub mod Headings
 pub mod Links
+pub mod Locks
 pub mod Marks
 pub mod Measures
 pub mod More

@@ -10,7 +10,7 @@ use borrow.Author.Tests.{eqb-true}
 use Rattle.lists.specs.Lists.{one, from, total}
 use Rattle.outline.specs.Outline.{size, next, first, records}
 use Rattle.outline.specs.Refusals.{naming, named}
-use Rattle.outline.proofs.Kept.{Later, Linked}
+use Rattle.outline.specs.Kept.{Later, Linked}
 use Rattle.laws.proofs.Sums.{Term, total-some, total-add, total-scale, total-swap, total-ext, total-two}
 
 -- the record whose link names q

@@ -8,7 +8,7 @@ use mathlib.Core.List.{List·Memᴰ·append-cases, List·Memᴰ·eq-of-singleton
 use native.Mathlib.Omega.{arith}
 use lib.Dec.{eqb}
 use lib.ListN.{length, getD}
-use Rattle.lists.specs.Lists.{pick, from}
+use Rattle.lists.specs.Lists.{pick, one, from}
 use Rattle.outline.specs.Outline.{size, records, isTaxon}
 use Rattle.diversity.specs.Diversity.{chosen}
 use Rattle.diversity.specs.Behind.{MarkAt, IsSet, Lacks}
@@ -109,6 +109,34 @@ unfolding records
 set-marked {o} {s} x =
     at-marked o s 1 (size o) (x .whole)
     (λ i l. subst (λ (j : ℕ). MarkAt o (1 + i) (getD s j 0)) (omega arith) (x .marks (1 + i) (omega arith) (omega arith)))
+
+-- ---- a test of record numbers, as marks
+abbrev pub marksOf : (ℕ → Bool) → ℕ → ℕ → List ℕ
+marksOf p a n = map (λ r. one (p r)) (from a n)
+
+marks-marked : (o : List ℕ) (p : ℕ → Bool) (a n : ℕ) → ((r : ℕ) → a ≤ r → r < a + n → isTaxon o r ≡ false → p r ≡ false)
+    → Marked o (from a n) (marksOf p a n)
+unfolding from
+marks-marked o p a zero h = done
+marks-marked o p a (suc n) h = go (p a) (isTaxon o a) refl refl (marks-marked o p (a + 1) n (λ r l u. h r (omega arith) (omega arith)))
+  where
+    go : (b c : Bool) → p a ≡ b → isTaxon o a ≡ c → Marked o (from (a + 1) n) (marksOf p (a + 1) n)
+        → Marked o (a ∷ from (a + 1) n) (one (p a) ∷ marksOf p (a + 1) n)
+    go false c e t m = rw e (leave m)
+    go true true e t m = rw e (choose t m)
+    go true false e t m = absurd (false≢true (sym (h a (omega arith) (omega arith) t) ∙ e))
+
+pub marks-set : (o : List ℕ) (p : ℕ → Bool) → ((r : ℕ) → 1 ≤ r → r ≤ size o → isTaxon o r ≡ false → p r ≡ false) → IsSet o (marksOf p 1 (size o))
+unfolding records
+marks-set o p h = marked-set (marks-marked o p 1 (size o) (λ r l u. h r l (omega arith)))
+
+pub marks-chosen : (p : ℕ → Bool) (n r : ℕ) → 1 ≤ r → r ≤ n → chosen (marksOf p 1 n) r ≡ p r
+unfolding chosen
+marks-chosen p n r l u = ap (λ k. eqb k 1) (map-at (λ r. one (p r)) 1 n (r - 1) (omega arith)) ∙ eqb-one _ ∙ ap p (omega arith)
+  where
+    eqb-one : (b : Bool) → eqb (one b) 1 ≡ b
+    eqb-one true = refl
+    eqb-one false = refl
 
 -- the search goes through every set of taxa, and through nothing else
 pub subsets-exactly : (o s : List ℕ) → List·Memᴰ s (subsets o (records o)) ↔ IsSet o s

@@ -5,7 +5,7 @@ use mathlib.Core.Bool.{Bool, true, false, _&&_, and-true, and-false}
 use mathlib.Core.List.{List}
 use native.Mathlib.Omega.{arith}
 use Rattle.lists.specs.Lists.{pick, one}
-use Rattle.outline.specs.Outline.{branch, price}
+use Rattle.outline.specs.Outline.{branch, price, locked}
 use Rattle.laws.specs.Forest.{Forest, empty, node, isGroup, sumIn}
 use Rattle.laws.proofs.Sums.{positive, positive-true}
 
@@ -20,6 +20,13 @@ groupsIn p F = sumIn (λ r f. one (p r && isGroup f)) F
 -- what the chosen records weigh
 abbrev pub weightIn : (ℕ → ℕ) → (ℕ → Bool) → Forest → ℕ
 weightIn w p F = sumIn (λ r f. pick (p r) (w r) 0) F
+
+-- so count locks
+abbrev pub lock : List ℕ → ℕ → ℕ
+lock o r = one (locked o r)
+
+abbrev pub locksIn : List ℕ → (ℕ → Bool) → Forest → ℕ
+locksIn o p F = weightIn (lock o) p F
 
 -- what the records weigh that are, or have below them, a chosen one
 abbrev pub withinIn : (ℕ → ℕ) → (ℕ → Bool) → Forest → ℕ
@@ -85,7 +92,7 @@ module _ (o : List ℕ) (p : ℕ → Bool) where
   crossing-quiet c = sum-quiet p _ (crossing-none c)
 
   -- with a record chosen outside the forest, the rooted rule holds in it
-  crossing-rooted : (c k : ℕ) (F : Forest) → 0 < k → k + chosenIn p F ≡ c → sumIn (crossing c) F ≡ rootedIn o p F
+  pub crossing-rooted : (c k : ℕ) (F : Forest) → 0 < k → k + chosenIn p F ≡ c → sumIn (crossing c) F ≡ rootedIn o p F
   crossing-rooted c k empty h e = refl
   crossing-rooted c k (node r f n) h e =
       omega (

@@ -1,13 +1,13 @@
--- More taxa, no less diversity: what counts for a set counts for every set that holds it.
+-- More taxa, no less diversity and no less cost: what counts for a set counts for every set that holds it.
 use Prim.Native.Nat.{ℕ, _≤_}
-use mathlib.Core.Path.{_≡_, refl}
+use mathlib.Core.Path.{_≡_, refl, sym, _∙_}
 use mathlib.Core.Bool.{Bool, true, false, _||_, _&&_, false≢true}
 use mathlib.Core.List.{List, [], _∷_}
 use native.Mathlib.Omega.{arith}
 use lib.Dec.{eqb}
 use Rattle.lists.specs.Lists.{pick, anywhere}
-use Rattle.outline.specs.Outline.{records, branch}
-use Rattle.diversity.specs.Diversity.{clade, chosen, within, elsewhere, rooted, unrooted, diversity}
+use Rattle.outline.specs.Outline.{records, branch, price}
+use Rattle.diversity.specs.Diversity.{clade, chosen, within, elsewhere, rooted, unrooted, diversity, cost}
 use Rattle.laws.proofs.Sums.{total-below}
 
 -- a test that holds wherever another does
@@ -51,3 +51,11 @@ module _ (o s t : List ℕ) (more : (r : ℕ) → Implies (chosen s r) (chosen t
           total-below _ _ (records o)
           (λ r. implies-pick (within o s r && elsewhere o s r) (within o t r && elsewhere o t r) (branch o r)
           (implies-and (within o s r) (elsewhere o s r) (within o t r) (elsewhere o t r) (within-more r) (elsewhere-more r)))
+
+  pub cost-more : cost o s ≤ cost o t
+  unfolding cost
+  cost-more = total-below _ _ (records o) (λ r. implies-pick (within o s r) (within o t r) (price o r) (within-more r))
+
+-- two lists of marks that choose alike cost the same
+pub cost-alike : (o s t : List ℕ) → ((r : ℕ) → chosen s r ≡ chosen t r) → cost o s ≡ cost o t
+cost-alike o s t alike = omega (arith, cost-more o s t (λ r e. sym (alike r) ∙ e), cost-more o t s (λ r e. alike r ∙ e))

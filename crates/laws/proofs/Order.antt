@@ -12,37 +12,47 @@ use Rattle.laws.specs.Candidate.{Value, plus, nothingWorth, beats, Cand,
 
 -- v is better than w
 pub data Beats (v w : Value) : Type 0 where
-  more : w .diversity < v .diversity → Beats v w
-  cheaper : v .diversity ≡ w .diversity → v .cost < w .cost → Beats v w
-  earlier : v .diversity ≡ w .diversity → v .cost ≡ w .cost → w .code < v .code → Beats v w
+  more-locked : w .locked < v .locked → Beats v w
+  more : v .locked ≡ w .locked → w .diversity < v .diversity → Beats v w
+  cheaper : v .locked ≡ w .locked → v .diversity ≡ w .diversity → v .cost < w .cost → Beats v w
+  earlier : v .locked ≡ w .locked → v .diversity ≡ w .diversity → v .cost ≡ w .cost → w .code < v .code → Beats v w
 
 -- v is w or better
 abbrev pub AtLeast : Value → Value → Type 0
 AtLeast v w = (w ≡ v) ⊎ Beats v w
 
-pub value-path : {v w : Value} → v .diversity ≡ w .diversity → v .cost ≡ w .cost → v .code ≡ w .code → v ≡ w
-value-path p q r = λ i. record { diversity = p i; cost = q i; code = r i }
+pub value-path : {v w : Value} → v .locked ≡ w .locked → v .diversity ≡ w .diversity → v .cost ≡ w .cost → v .code ≡ w .code → v ≡ w
+value-path k p q r = λ i. record { locked = k i; diversity = p i; cost = q i; code = r i }
 
 pub beats-trans : {u v w : Value} → Beats u v → Beats v w → Beats u w
-beats-trans (more p) (more q) = more (omega arith)
-beats-trans (more p) (cheaper d q) = more (omega arith)
-beats-trans (more p) (earlier d c q) = more (omega arith)
-beats-trans (cheaper e p) (more q) = more (omega arith)
-beats-trans (cheaper e p) (cheaper d q) = cheaper (omega arith) (omega arith)
-beats-trans (cheaper e p) (earlier d c q) = cheaper (omega arith) (omega arith)
-beats-trans (earlier e f p) (more q) = more (omega arith)
-beats-trans (earlier e f p) (cheaper d q) = cheaper (omega arith) (omega arith)
-beats-trans (earlier e f p) (earlier d c q) = earlier (omega arith) (omega arith) (omega arith)
+beats-trans (more-locked p) (more-locked q) = more-locked (omega arith)
+beats-trans (more-locked p) (more l q) = more-locked (omega arith)
+beats-trans (more-locked p) (cheaper l d q) = more-locked (omega arith)
+beats-trans (more-locked p) (earlier l d c q) = more-locked (omega arith)
+beats-trans (more k p) (more-locked q) = more-locked (omega arith)
+beats-trans (more k p) (more l q) = more (omega arith) (omega arith)
+beats-trans (more k p) (cheaper l d q) = more (omega arith) (omega arith)
+beats-trans (more k p) (earlier l d c q) = more (omega arith) (omega arith)
+beats-trans (cheaper k e p) (more-locked q) = more-locked (omega arith)
+beats-trans (cheaper k e p) (more l q) = more (omega arith) (omega arith)
+beats-trans (cheaper k e p) (cheaper l d q) = cheaper (omega arith) (omega arith) (omega arith)
+beats-trans (cheaper k e p) (earlier l d c q) = cheaper (omega arith) (omega arith) (omega arith)
+beats-trans (earlier k e f p) (more-locked q) = more-locked (omega arith)
+beats-trans (earlier k e f p) (more l q) = more (omega arith) (omega arith)
+beats-trans (earlier k e f p) (cheaper l d q) = cheaper (omega arith) (omega arith) (omega arith)
+beats-trans (earlier k e f p) (earlier l d c q) = earlier (omega arith) (omega arith) (omega arith) (omega arith)
 
 pub beats-not-self : {v : Value} → Beats v v → ⊥
-beats-not-self (more p) = omega arith
-beats-not-self (cheaper d p) = omega arith
-beats-not-self (earlier d c p) = omega arith
+beats-not-self (more-locked p) = omega arith
+beats-not-self (more k p) = omega arith
+beats-not-self (cheaper k d p) = omega arith
+beats-not-self (earlier k d c p) = omega arith
 
 pub beats-plus : {v w : Value} (u : Value) → Beats v w → Beats (plus v u) (plus w u)
-beats-plus u (more p) = more (omega arith)
-beats-plus u (cheaper d p) = cheaper (omega arith) (omega arith)
-beats-plus u (earlier d c p) = earlier (omega arith) (omega arith) (omega arith)
+beats-plus u (more-locked p) = more-locked (omega arith)
+beats-plus u (more k p) = more (omega arith) (omega arith)
+beats-plus u (cheaper k d p) = cheaper (omega arith) (omega arith) (omega arith)
+beats-plus u (earlier k d c p) = earlier (omega arith) (omega arith) (omega arith) (omega arith)
 
 pub atleast-trans : {u v w : Value} → AtLeast u v → AtLeast v w → AtLeast u w
 atleast-trans (inl p) (inl q) = inl (q ∙ p)
@@ -60,13 +70,13 @@ atleast-plus u (inl p) = inl (ap (λ (x : Value). plus x u) p)
 atleast-plus u (inr p) = inr (beats-plus u p)
 
 pub plus-assoc : (u v w : Value) → plus (plus u v) w ≡ plus u (plus v w)
-plus-assoc u v w = value-path (omega arith) (omega arith) (omega arith)
+plus-assoc u v w = value-path (omega arith) (omega arith) (omega arith) (omega arith)
 
 pub plus-comm : (v w : Value) → plus v w ≡ plus w v
-plus-comm v w = value-path (omega arith) (omega arith) (omega arith)
+plus-comm v w = value-path (omega arith) (omega arith) (omega arith) (omega arith)
 
 pub nothing-plus : (v : Value) → plus nothingWorth v ≡ v
-nothing-plus v = value-path (omega arith) (omega arith) (omega arith)
+nothing-plus v = value-path (omega arith) (omega arith) (omega arith) (omega arith)
 
 pub plus-nothing : (v : Value) → plus v nothingWorth ≡ v
 plus-nothing v = plus-comm v nothingWorth ∙ nothing-plus v
@@ -81,25 +91,31 @@ Decided v w false = AtLeast w v
 
 pub beats-decides : (v w : Value) → Decided v w (beats v w)
 unfolding beats
-beats-decides v w = go _ _ _ _ _ refl refl refl refl refl
+beats-decides v w = go _ _ _ _ _ _ _ refl refl refl refl refl refl refl
   where
-    last : v .diversity ≡ w .diversity → v .cost ≡ w .cost → (v .code ≡ w .code) ⊎ (v .code < w .code) → AtLeast w v
-    last d c (inl e) = inl (value-path d c e)
-    last d c (inr l) = inr (earlier (omega arith) (omega arith) l)
+    last : v .locked ≡ w .locked → v .diversity ≡ w .diversity → v .cost ≡ w .cost → (v .code ≡ w .code) ⊎ (v .code < w .code) → AtLeast w v
+    last k d c (inl e) = inl (value-path k d c e)
+    last k d c (inr l) = inr (earlier (omega arith) (omega arith) (omega arith) l)
 
-    go : (a b c d e : Bool) → ltb (w .diversity) (v .diversity) ≡ a → eqb (v .diversity) (w .diversity) ≡ b
+    go : (x y a b c d e : Bool) → ltb (w .locked) (v .locked) ≡ x → eqb (v .locked) (w .locked) ≡ y
+        → ltb (w .diversity) (v .diversity) ≡ a → eqb (v .diversity) (w .diversity) ≡ b
         → ltb (v .cost) (w .cost) ≡ c → eqb (v .cost) (w .cost) ≡ d → ltb (w .code) (v .code) ≡ e
-        → Decided v w (a || (b && (c || (d && e))))
-    go true b c d e p q r s t = more (ltb-true _ _ p)
-    go false true true d e p q r s t = cheaper (eqb-true _ _ q) (ltb-true _ _ r)
-    go false true false true true p q r s t = earlier (eqb-true _ _ q) (eqb-true _ _ s) (ltb-true _ _ t)
-    go false true false true false p q r s t = last (eqb-true _ _ q) (eqb-true _ _ s) (eq-or-lt-of-le (ltb-false _ _ t))
-    go false true false false e p q r s t =
+        → Decided v w (x || (y && (a || (b && (c || (d && e))))))
+    go true y a b c d e f g p q r s t = more-locked (ltb-true _ _ f)
+    go false true true b c d e f g p q r s t = more (eqb-true _ _ g) (ltb-true _ _ p)
+    go false true false true true d e f g p q r s t = cheaper (eqb-true _ _ g) (eqb-true _ _ q) (ltb-true _ _ r)
+    go false true false true false true true f g p q r s t = earlier (eqb-true _ _ g) (eqb-true _ _ q) (eqb-true _ _ s) (ltb-true _ _ t)
+    go false true false true false true false f g p q r s t =
+        last (eqb-true _ _ g) (eqb-true _ _ q) (eqb-true _ _ s) (eq-or-lt-of-le (ltb-false _ _ t))
+    go false true false true false false e f g p q r s t =
         let ne : v .cost ≢ w .cost = eqb-false _ _ s in
-        inr (cheaper (omega (arith, eqb-true)) (omega (arith, ltb-false)))
-    go false false c d e p q r s t =
+        inr (cheaper (omega (arith, eqb-true)) (omega (arith, eqb-true)) (omega (arith, ltb-false)))
+    go false true false false c d e f g p q r s t =
         let ne : v .diversity ≢ w .diversity = eqb-false _ _ q in
-        inr (more (omega (arith, ltb-false)))
+        inr (more (omega (arith, eqb-true)) (omega (arith, ltb-false)))
+    go false false a b c d e f g p q r s t =
+        let ne : v .locked ≢ w .locked = eqb-false _ _ g in
+        inr (more-locked (omega (arith, ltb-false)))
 
 pub beats-is : {v w : Value} → beats v w ≡ true → Beats v w
 beats-is {v} {w} e = subst (Decided v w) e (beats-decides v w)

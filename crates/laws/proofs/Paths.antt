@@ -13,7 +13,7 @@ use Rattle.lists.proofs.Walk.{anywhere-lowest, lowest-holds}
 use Rattle.refusals.proofs.Tests.{decides-not}
 use Rattle.outline.specs.Outline.{size, next, first, records}
 use Rattle.outline.specs.Inner.{IsRecord}
-use Rattle.outline.proofs.Kept.{Linked}
+use Rattle.outline.specs.Kept.{Linked}
 use Rattle.diversity.specs.Diversity.{clade, chosen, within, elsewhere}
 use Rattle.diversity.specs.Paths.{Parent, of-root, of-first, of-next, OnWay, itself, parent, Between, IsChosen}
 use Rattle.laws.specs.Forest.{Forest, node, shape, tree}

@@ -10,7 +10,7 @@ use borrow.Author.Tests.{eqb-true, eqb-false, eq-eqb, ltb-true, ltb-false}
 use Rattle.lists.specs.Lists.{pick, one, total}
 use Rattle.outline.specs.Outline.{size, next, first, records}
 use Rattle.outline.specs.Inner.{IsRecord}
-use Rattle.outline.proofs.Kept.{Linked}
+use Rattle.outline.specs.Kept.{Linked}
 use Rattle.diversity.specs.Diversity.{within, elsewhere, rooted, unrooted, diversity}
 use Rattle.diversity.specs.Paths.{Parent, of-root, of-first, of-next, OnWay, itself, parent, Between, Walk, stay, up, down}
 use Rattle.diversity.specs.Paths.{SmallestSubtree, IsChosen, RootOrChosen, SubtreeLength, Ends}

@@ -10,7 +10,7 @@ use lib.Pow.{pow-mono}
 use Rattle.lists.specs.Lists.{pick, one, from, total}
 use Rattle.outline.specs.Outline.{size, records, isTaxon}
 use Rattle.outline.specs.Refusals.{taxaIn, mostTaxa}
-use Rattle.outline.proofs.Kept.{Kept}
+use Rattle.outline.specs.Kept.{Kept}
 use Rattle.laws.specs.Numbers.{weight}
 use Rattle.laws.proofs.Sums.{total-term}
 use Rattle.laws.proofs.Numbers.{weights-below}

@@ -6,6 +6,7 @@ use Rattle.outline.specs.Outline.{size, records, isTaxon}
 use Rattle.outline.specs.Refusals.{taxaIn}
 use Rattle.diversity.specs.Diversity.{chosen, diversity, cost}
 use Rattle.laws.specs.Candidate.{Value}
+use Rattle.laws.specs.Locks.{locksHeld}
 
 -- 2 to the number of taxa after record r
 unfoldable pub weight : List ℕ → ℕ → ℕ
@@ -20,4 +21,4 @@ decode o c = map (λ r. pick (isTaxon o r) (c / weight o r % 2) 0) (records o)
 
 -- what a set is worth, by the way of counting
 unfoldable pub worth : List ℕ → ℕ → List ℕ → Value
-worth o way s = record { diversity = diversity o way s; cost = cost o s; code = code o s }
+worth o way s = record { locked = locksHeld o s; diversity = diversity o way s; cost = cost o s; code = code o s }

@@ -11,9 +11,10 @@ use Rattle.lists.proofs.Buffers.{over-at}
 use Rattle.refusals.specs.Refusals.{Told}
 use Rattle.outline.specs.Outline.{short, size, records}
 use Rattle.diversity.specs.Diversity.{chosen}
+use Rattle.diversity.specs.Behind.{IsSet}
 use Rattle.laws.proofs.Optimum.{optimum-set}
 use Rattle.choice.specs.Answer.{Call, Reply, refused, judged, isSelected, bestSet, selected, reply, curveOf, marksAfter, curveAfter}
-use Rattle.choice.proofs.Answers.{told-selection, selection-told}
+use Rattle.choice.proofs.Answers.{selected-solvable, told-selection, selection-told}
 use Rattle.choice.proofs.Solving.{curve-diversity, curve-cost}
 use Rattle.text.specs.Text.{texts}
 use Rattle.listing.specs.FromBuffers.{columnText, taxonText, columnsText, taxaText, wholeText}
@@ -48,12 +49,13 @@ unfolding columnsText columnText columnLine
 columns-text c rest =
     texts-ext _ _ 0 (c .count + 1) (λ b l u. rw (curve-diversity c rest b (omega arith), curve-cost c rest b (omega arith)))
 
-taxa-text : (c : Call) (rest : List ℕ) → taxaText (c .outline) (over (bestSet c) rest) ≡ texts (taxonLine c) (records (c .outline))
+taxa-text : (c : Call) (rest : List ℕ) → IsSet (c .outline) (bestSet c)
+    → taxaText (c .outline) (over (bestSet c) rest) ≡ texts (taxonLine c) (records (c .outline))
 unfolding taxaText taxonText taxonLine records chosen
-taxa-text c rest =
+taxa-text c rest x =
     let s = bestSet c in
     texts-ext _ _ 1 (size (c .outline)) (λ r l u.
-    let h : r - 1 < length s = omega (arith, optimum-set (c .outline) (c .way) (c .count) .whole) in
+    let h : r - 1 < length s = omega (arith, x .whole) in
     rw (over-at s rest (r - 1) h))
 
 -- a selection
@@ -73,4 +75,5 @@ module _ (c : Call) (d k t s : ℕ) (e : record { number = 0; place = 0; diversi
       let a : d ≡ selected c .diversity = ap (λ (r : Reply). r .diversity) replied in
       let b : k ≡ selected c .cost = ap (λ (r : Reply). r .cost) replied in
       let n : t ≡ selected c .taxa = ap (λ (r : Reply). r .taxa) replied in
-      rw (is-selected, m′, v′, columns-text c (c .curve), taxa-text c (c .marks), a, b, n)
+      let set = optimum-set (c .outline) (c .way) (c .count) (selected-solvable c is-selected .locked-fit) in
+      rw (is-selected, m′, v′, columns-text c (c .curve), taxa-text c (c .marks) set, a, b, n)

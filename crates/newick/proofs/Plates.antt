@@ -31,7 +31,7 @@ module _ (o : List ℕ) where
     unfolding recordBytes bytes
     first-back small = short-in (16 * (r - 1)) 2 h ∙ omega arith
 
-    plate-back : p < 4294967296 → plate o r ≡ p
+    plate-back : p < 2147483648 → plate o r ≡ p
     unfolding recordBytes bytes long
     plate-back small =
         let i = 16 * (r - 1) in

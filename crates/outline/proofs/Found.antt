@@ -1,8 +1,8 @@
 -- What the finder gives: the record of the one taxon that has the plate, where the outline is accepted and there is one.
-use Prim.Native.Nat.{ℕ, _+_, _*_, _-_, _≤_, _<_}
-use mathlib.Core.Path.{_≡_, refl, sym, _∙_}
+use Prim.Native.Nat.{ℕ, _+_, _*_, _-_, _%_, _≤_, _<_}
+use mathlib.Core.Path.{_≡_, refl, sym, ap, _∙_}
 use mathlib.Core.Bool.{Bool, true, false, false≢true}
-use mathlib.Core.List.{List, []}
+use mathlib.Core.List.{List, [], _∷_}
 use mathlib.Core.Logic.{_↔_}
 use native.Mathlib.Omega.{arith}
 use lib.ListN.{length, getD, take, drop, length-drop}
@@ -14,7 +14,8 @@ use Rattle.lists.proofs.Bools.{both-true}
 use Rattle.lists.proofs.Walk.{lowest-none, lowest-holds, lowest-le}
 use Rattle.outline.specs.Outline.{short, long, size, records, plate, isTaxon}
 use Rattle.outline.specs.Refusals.{hasPlate, mostRecords, isAccepted, foundAt, found}
-use Rattle.outline.proofs.Kept.{Kept, accepted-kept}
+use Rattle.outline.specs.Kept.{Kept}
+use Rattle.outline.proofs.Kept.{accepted-kept}
 
 -- some taxon has plate p
 pub record Holder (o : List ℕ) (p : ℕ) : Type 0 where
@@ -60,7 +61,7 @@ module _ (o : List ℕ) (kept : Kept o) (r : ℕ) (l : 1 ≤ r) (u : r ≤ size 
   part-carries p t e = record {
     whole = part-length;
     taxon = rw (part-short 2 (omega arith)) t;
-    plated = part-long 12 (omega arith) ∙ e;
+    plated = ap (λ k. k % 2147483648) (part-long 12 (omega arith)) ∙ e;
   }
 
 -- ---- the finder
@@ -132,3 +133,11 @@ module _ (o : List ℕ) (p : ℕ) where
           let (low, high, taxon, plated) = at-holds (eqb-false at 0 z) in
           (a, record { at = at; low = low; high = high; taxon = taxon; plated = plated })
       go false a z e h = absurd (omega arith)
+
+  -- a plate's number has 31 bits: for a greater one nothing is found
+  pub found-none : 2147483647 < p → found o p ≡ []
+  found-none h = no-length (found o p) (λ k. let holder = found-exactly .0 k .1 in omega (arith, holder .plated))
+    where
+      no-length : (l : List ℕ) → (0 < length l → ⊥) → l ≡ []
+      no-length [] e = refl
+      no-length (x ∷ l) e = absurd (e (omega arith))

@@ -1,6 +1,6 @@
 -- An outline: N records of 16 bytes, numbered from 1. Record 1 is the root.
 use Prim.Native.Nat.{ℕ, zero, suc, _+_, _*_, _-_, _/_, _%_}
-use mathlib.Core.Bool.{Bool}
+use mathlib.Core.Bool.{Bool, _&&_}
 use mathlib.Core.List.{List, [], _∷_, _++_}
 use lib.ListN.{length, getD}
 use lib.Dec.{eqb}
@@ -37,13 +37,21 @@ branch o r = long o (16 * (r - 1) + 4)
 abbrev pub price : List ℕ → ℕ → ℕ
 price o r = long o (16 * (r - 1) + 8)
 
--- bytes 12 to 15: the plate's number
+-- bytes 12 to 15: the plate field
+abbrev pub plateField : List ℕ → ℕ → ℕ
+plateField o r = long o (16 * (r - 1) + 12)
+
+-- its lower 31 bits: the plate's number
 abbrev pub plate : List ℕ → ℕ → ℕ
-plate o r = long o (16 * (r - 1) + 12)
+plate o r = plateField o r % 2147483648
 
 -- a first of 0 makes the record a taxon, otherwise it is a group
 abbrev pub isTaxon : List ℕ → ℕ → Bool
 isTaxon o r = eqb (first o r) 0
+
+-- bit 31 of a taxon's plate field locks it
+unfoldable pub locked : List ℕ → ℕ → Bool
+locked o r = isTaxon o r && eqb (plateField o r / 2147483648 % 2) 1
 
 -- the k bytes of a number, least significant byte first
 unfoldable pub bytes : ℕ → ℕ → List ℕ

@@ -7,12 +7,12 @@ use lib.ListN.{length, take, drop}
 use lib.Dec.{eqb, ltb, leb}
 use Rattle.lists.specs.Lists.{pick, one, from, anywhere, total, lowest}
 use Rattle.refusals.specs.Refusals.{Told, _▸_, row, rowAt}
-use Rattle.outline.specs.Outline.{size, records, next, first, branch, price, plate, isTaxon}
+use Rattle.outline.specs.Outline.{size, records, next, first, branch, price, plateField, plate, isTaxon}
 
--- refusal 5: length, price or plate outside its range. A taxon's plate is not 0, a group's is
+-- refusal 5: length, price or plate outside its range. A taxon's plate is not 0, a group's whole field is
 unfoldable pub badField : List ℕ → ℕ → Bool
 badField o r =
-    let badPlate = pick (isTaxon o r) (eqb (plate o r) 0) (not (eqb (plate o r) 0)) in
+    let badPlate = pick (isTaxon o r) (eqb (plate o r) 0) (not (eqb (plateField o r) 0)) in
     ltb 1000000 (branch o r) || (ltb 65535 (price o r) || badPlate)
 
 -- a link of record r that isn't 0 and isn't a later record's number up to N

@@ -3,7 +3,10 @@ ghost use mathlib.Core.Path.{_≡_};
 ghost use Prim.Native.Nat.{_+_, _<_};
 ghost use lib.ListN.{length};
 ghost use Rattle.outline.specs.Inner.{IsRecord};
-ghost use Rattle.outline.specs.Outline.{short, long, next, first, branch, price, plate, isTaxon};
+ghost use Rattle.outline.specs.Outline.{short, long, next, first, branch, price, plateField, plate, isTaxon, locked};
+
+// Bit 31 of a plate field, the lock; the bits below it are the plate's number.
+pub const LOCK: u32 = 2147483648;
 
 // The number of two bytes at a place.
 pub fn short_at(o: &[u8], at: usize) -> u16
@@ -49,11 +52,18 @@ pub fn price_of(o: &[u8], r: usize) -> u32
     long_at(o, 16 * (r - 1) + 8)
 }
 
+pub fn plate_field_of(o: &[u8], r: usize) -> u32
+    requires { ⌜ IsRecord (now o) r ⌝ }
+    ensures { λ v. ⌜ v ≡ plateField (now (o .entry)) r ⌝ }
+{
+    long_at(o, 16 * (r - 1) + 12)
+}
+
 pub fn plate_of(o: &[u8], r: usize) -> u32
     requires { ⌜ IsRecord (now o) r ⌝ }
     ensures { λ v. ⌜ v ≡ plate (now (o .entry)) r ⌝ }
 {
-    long_at(o, 16 * (r - 1) + 12)
+    plate_field_of(o, r) % LOCK
 }
 
 pub fn is_taxon(o: &[u8], r: usize) -> bool
@@ -61,4 +71,11 @@ pub fn is_taxon(o: &[u8], r: usize) -> bool
     ensures { λ v. ⌜ v ≡ isTaxon (now (o .entry)) r ⌝ }
 {
     first_of(o, r) == 0
+}
+
+pub fn is_locked(o: &[u8], r: usize) -> bool
+    requires { ⌜ IsRecord (now o) r ⌝ }
+    ensures { λ v. ⌜ v ≡ locked (now (o .entry)) r ⌝ }
+{
+    is_taxon(o, r) & (plate_field_of(o, r) / LOCK % 2 == 1)
 }

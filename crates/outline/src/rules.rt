@@ -10,6 +10,7 @@ use super::fields::branch_of;
 use super::fields::first_of;
 use super::fields::is_taxon;
 use super::fields::next_of;
+use super::fields::plate_field_of;
 use super::fields::plate_of;
 use super::fields::price_of;
 use super::limits::MOST_LENGTH;
@@ -30,11 +31,10 @@ fn bad_field(o: &[u8], r: usize) -> bool
 {
     let long = MOST_LENGTH < branch_of(o, r);
     let dear = MOST_PRICE < price_of(o, r);
-    let plate = plate_of(o, r);
     if is_taxon(o, r) {
-        long | (dear | (plate == 0))
+        long | (dear | (plate_of(o, r) == 0))
     } else {
-        long | (dear | (plate != 0))
+        long | (dear | (plate_field_of(o, r) != 0))
     }
 }
 

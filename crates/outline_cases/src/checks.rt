@@ -2,6 +2,7 @@
 use super::show::changed;
 use super::show::check;
 use super::show::check_bytes;
+use samples::locks::locked;
 use samples::outlines::blank;
 use samples::outlines::comb;
 use samples::outlines::one_record;
@@ -34,7 +35,7 @@ pub fn fields() {
     changed(b"taxon with plate 0", 3, [4, 0, 4, 3, 0]);
     changed(b"plate 1", 3, [4, 0, 4, 3, 1]);
     changed(b"plate 16,777,216", 3, [4, 0, 4, 3, 16777216]);
-    changed(b"plate 4,294,967,295", 3, [4, 0, 4, 3, 4294967295]);
+    changed(b"plate 2,147,483,647", 3, [4, 0, 4, 3, 2147483647]);
     changed(b"group with price 65,535", 2, [5, 3, 3, 65535, 0]);
     changed(b"group with price 65,536", 2, [5, 3, 3, 65536, 0]);
     changed(b"root with price 65,535", 1, [0, 2, 0, 65535, 0]);
@@ -43,6 +44,22 @@ pub fn fields() {
     let mut buffer = tree_a_with(5, [0, 0, 5, 65536, 13]);
     put(&mut buffer, 3, [4, 0, 4, 3, 0]);
     check(b"bad fields in records 3 and 5", &buffer, 5);
+}
+
+// Bit 31 of a taxon's plate field is its lock, and the other bits are its plate.
+pub fn locks() {
+    changed(b"plate 11 locked", 3, [4, 0, 4, 3, 2147483659]);
+    changed(b"plate 1 locked", 3, [4, 0, 4, 3, 2147483649]);
+    changed(b"plate 0 locked", 3, [4, 0, 4, 3, 2147483648]);
+    changed(b"plate 2,147,483,647 locked", 3, [4, 0, 4, 3, 4294967295]);
+    changed(b"group locked", 2, [5, 3, 3, 0, 2147483648]);
+    changed(b"root locked", 1, [0, 2, 0, 0, 2147483648]);
+    check(b"plates 11, 12 and 13 locked", &locked(&tree_a(), 5, 7), 5);
+    check(
+        b"64 taxa, all locked",
+        &locked(&star(65, 0, 0), 65, 18446744073709551615),
+        65,
+    );
 }
 
 // A link names a later record. But for that each record here is named as it should be.
@@ -143,6 +160,13 @@ pub fn plates_alike() {
     put(&mut many, 65, [0, 0, 0, 0, 2]);
     check(b"64 taxa, two plates alike", &many, 65);
     changed(b"plates 11 and 16,777,227", 4, [0, 0, 2, 1, 16777227]);
+    changed(
+        b"plate 11 at 3, and locked at 5",
+        5,
+        [0, 0, 5, 2, 2147483659],
+    );
+    let both = locked(&tree_a_with(4, [0, 0, 2, 1, 11]), 5, 3);
+    check(b"plate 11 locked at 3 and 4", &both, 5);
     changed(b"plate like a length and a price", 3, [4, 0, 4, 3, 2]);
 }
 

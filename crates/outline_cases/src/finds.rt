@@ -1,5 +1,6 @@
 // Cases of finding a plate's record.
 use super::show::find;
+use samples::locks::locked;
 use samples::outlines::comb;
 use samples::outlines::one_record;
 use samples::outlines::star;
@@ -16,13 +17,28 @@ pub fn in_accepted() {
     find(b"", &buffer, 80, 99);
     find(b"", &buffer, 80, 0);
     find(b" in one taxon", &one_record([0, 0, 5, 1, 7]), 16, 7);
-    let highest = one_record([0, 0, 1000000, 65535, 4294967295]);
-    find(b" in one taxon", &highest, 16, 4294967295);
+    let highest = one_record([0, 0, 1000000, 65535, 2147483647]);
+    find(b" in one taxon", &highest, 16, 2147483647);
     find(b" in one taxon", &highest, 16, 65535);
     find(b" among 64 taxa", &star(65, 0, 0), 1040, 65);
     let headings = tree_a_with_headings(99, 65535);
     find(b" under headings 99 and 65,535", &headings, 80, 12);
     find(b" under headings 99 and 65,535", &headings, 80, 99);
+}
+
+// A locked taxon is found by its plate, and a number with bit 31 is no plate.
+pub fn locks() {
+    let some = locked(&tree_a(), 5, 5);
+    find(b" beside locks at 11 and 13", &some, 80, 11);
+    find(b" beside locks at 11 and 13", &some, 80, 12);
+    find(b" beside locks at 11 and 13", &some, 80, 2147483659);
+    find(b" beside locks at 11 and 13", &some, 80, 2147483660);
+    find(b" beside locks at 11 and 13", &some, 80, 2147483648);
+    let highest = one_record([0, 0, 5, 1, 4294967295]);
+    find(b" in one locked taxon", &highest, 16, 2147483647);
+    find(b" in one locked taxon", &highest, 16, 4294967295);
+    let alike = tree_a_with(5, [0, 0, 5, 2, 2147483660]);
+    find(b" beside plate 12, locked once", &alike, 80, 11);
 }
 
 // A refused outline gives nothing, though the plate is there.

@@ -1,6 +1,6 @@
 // The check and the finder of outlines, run on cases whose answers documents 01 and 02 settle. A line is printed for each
 // case: what is special about the outline, and the refusal's number and place, `0 0` if there is none; or the plate to find,
-// and the fields of the record found: next, first, length, price, plate.
+// and the fields of the record found: next, first, length, price, plate, and whether it is locked.
 mod checks;
 mod finds;
 mod show;
@@ -8,6 +8,7 @@ mod show;
 fn main() {
     checks::sizes();
     checks::fields();
+    checks::locks();
     checks::links_to_later();
     checks::links_in_range();
     checks::naming();
@@ -17,5 +18,6 @@ fn main() {
     checks::plates_alike();
     checks::interleaved();
     finds::in_accepted();
+    finds::locks();
     finds::in_refused();
 }

@@ -2,6 +2,7 @@
 ghost use Prim.Native.Nat.{_≤_};
 use outline::fields::branch_of;
 use outline::fields::first_of;
+use outline::fields::is_locked;
 use outline::fields::next_of;
 use outline::fields::plate_of;
 use outline::fields::price_of;
@@ -37,6 +38,9 @@ fn say_part(part: &[u8]) {
     say_pair(branch_of(part, 1) as u64, price_of(part, 1) as usize);
     say(b" ");
     say_number(plate_of(part, 1) as u64);
+    if is_locked(part, 1) {
+        say(b" locked");
+    }
 }
 
 // The check of the first bytes.

@@ -32,6 +32,7 @@ refusal (Refusal.DuplicatePlate r) = tells 8 r  -- twin
 refusal Refusal.BufferTooShort = tells 9 0  -- space
 refusal Refusal.BadText = tells 10 0
 refusal Refusal.BadPairs = tells 11 0
+refusal Refusal.LockedTooDear = tells 12 0
 
 -- and of what a judge answers
 abbrev pub told : Verdict → Told

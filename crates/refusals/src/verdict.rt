@@ -15,6 +15,7 @@ pub enum Refusal {
     BufferTooShort,
     BadText,
     BadPairs,
+    LockedTooDear,
 }
 
 pub enum Verdict {
@@ -38,6 +39,7 @@ pub fn number_of(refusal: Refusal) -> u32
         Refusal::BufferTooShort => 9,
         Refusal::BadText => 10,
         Refusal::BadPairs => 11,
+        Refusal::LockedTooDear => 12,
     }
 }
 
@@ -57,5 +59,6 @@ pub fn place_of(refusal: Refusal) -> usize
         Refusal::BufferTooShort => 0,
         Refusal::BadText => 0,
         Refusal::BadPairs => 0,
+        Refusal::LockedTooDear => 0,
     }
 }

@@ -7,33 +7,40 @@ use lib.Pow.{pow-mono}
 use Rattle.lists.specs.Lists.{pick, total}
 use Rattle.outline.specs.Outline.{size, next, first, branch, price, records, isTaxon}
 use Rattle.outline.specs.Refusals.{taxa, taxaIn, mostRecords, mostTaxa}
-use Rattle.outline.proofs.Kept.{Linked, Kept}
+use Rattle.outline.specs.Kept.{Linked, Kept}
 use Rattle.laws.specs.Forest.{Forest, empty, node, sumIn, tree}
 use Rattle.laws.specs.Candidate.{Value, Cand}
+use Rattle.laws.specs.Locks.{locks}
 use Rattle.laws.specs.Numbers.{weight}
 use Rattle.laws.proofs.Sums.{total-ext, total-most}
 use Rattle.laws.proofs.Forest.{tree-step, sum-part}
+use Rattle.laws.proofs.Measures.{lock}
 use Rattle.laws.proofs.Best.{From, nothing, this, from-better, from-same}
+use Rattle.laws.proofs.Locks.{locks-most}
 use Rattle.laws.proofs.Numbers.{weights-below}
 use Rattle.rows.specs.Rows.{Row, betterRow, isLeaf, taxonRooted, headingRooted, cladeRow, pushed, rootedRow}
 use Rattle.rows.proofs.BestRows.{from-join-row}
 use Rattle.rows.proofs.Steps.{leaf-taxon}
 
--- at most d of diversity, and a weigh of at most m
-pub record Small (d m : ℕ) (v : Value) : Type 0 where
+-- at most k locked taxa, d of diversity, and a weigh of m
+pub record Small (k d m : ℕ) (v : Value) : Type 0 where
+  pub locked-most : v .locked ≤ k
   pub diversity-most : v .diversity ≤ d
   pub code-most : v .code ≤ m
 
 -- the candidates of a row up to column n are small, and each costs at most its column
-abbrev pub SmallRow : ℕ → ℕ → ℕ → Row → Type 0
-SmallRow d m n x = (b : ℕ) → b ≤ n → From (Small d m) b (x b)
+abbrev pub SmallRow : ℕ → ℕ → ℕ → ℕ → Row → Type 0
+SmallRow k d m n x = (b : ℕ) → b ≤ n → From (Small k d m) b (x b)
 
-pub small-more : {d m : ℕ} (e n : ℕ) {b : ℕ} {c : Cand} → d ≤ e → m ≤ n → From (Small d m) b c → From (Small e n) b c
-small-more e n h k = from-same (λ v s. record { diversity-most = omega arith; code-most = omega arith })
+pub small-more : {k d m : ℕ} (l e n : ℕ) {b : ℕ} {c : Cand} → k ≤ l → d ≤ e → m ≤ n → From (Small k d m) b c → From (Small l e n) b c
+small-more l e n g h i = from-same (λ v s. record { locked-most = omega arith; diversity-most = omega arith; code-most = omega arith })
 
--- what all records of a forest weigh: their branches and prices; and the codes of its taxa
+-- what all records of a forest weigh: their locks, branches and prices; and the codes of its taxa
 abbrev pub allIn : (ℕ → ℕ) → Forest → ℕ
 allIn w F = sumIn (λ r f. w r) F
+
+abbrev pub lockings : List ℕ → Forest → ℕ
+lockings o F = allIn (lock o) F
 
 abbrev pub branches : List ℕ → Forest → ℕ
 branches o F = allIn (branch o) F
@@ -45,35 +52,35 @@ abbrev pub codes : (ℕ → ℕ) → Forest → ℕ
 codes weigh F = sumIn (λ r f. pick (isLeaf f) (weigh r) 0) F
 
 module _ (o : List ℕ) (weigh : ℕ → ℕ) where
-  clade-small : (r : ℕ) (f : Forest) (d m : ℕ) {x : Row} (g : Row) (b : ℕ) → SmallRow d m b x
-      → SmallRow (d + branches o f) (m + codes weigh f) b g
-      → From (Small (d + (branch o r + branches o f)) (m + (pick (isLeaf f) (weigh r) 0 + codes weigh f))) b
+  clade-small : (r : ℕ) (f : Forest) (k d m : ℕ) {x : Row} (g : Row) (b : ℕ) → SmallRow k d m b x
+      → SmallRow (k + lockings o f) (d + branches o f) (m + codes weigh f) b g
+      → From (Small (k + (lock o r + lockings o f)) (d + (branch o r + branches o f)) (m + (pick (isLeaf f) (weigh r) 0 + codes weigh f))) b
       (cladeRow o weigh r (isLeaf f) x g b)
   unfolding cladeRow
-  clade-small r empty d m {x} g b hx hg =
-      from-same (λ v (q, s, e). rw e (record { diversity-most = omega arith; code-most = omega arith }))
+  clade-small r empty k d m {x} g b hx hg =
+      from-same (λ v (q, s, e). rw e (record { locked-most = omega arith; diversity-most = omega arith; code-most = omega arith }))
       (from-join-row (taxonRooted o weigh r) x b (hx (b - price o r) (omega arith)))
-  clade-small r (node s h n) d m g b hx hg =
-      from-same (λ v (q, s, e). rw e (record { diversity-most = omega arith; code-most = omega arith }))
+  clade-small r (node s h n) k d m g b hx hg =
+      from-same (λ v (q, s, e). rw e (record { locked-most = omega arith; diversity-most = omega arith; code-most = omega arith }))
       (from-join-row (headingRooted o weigh r) g b (hg (b - price o r) (omega arith)))
 
-  -- pushing adds at most the forest's branches and codes
-  pub pushed-small : (F : Forest) (d m n : ℕ) {x : Row} → SmallRow d m n x
-      → SmallRow (d + branches o F) (m + codes weigh F) n (pushed o weigh F x)
+  -- pushing adds at most the forest's locks, branches and codes
+  pub pushed-small : (F : Forest) (k d m n : ℕ) {x : Row} → SmallRow k d m n x
+      → SmallRow (k + lockings o F) (d + branches o F) (m + codes weigh F) n (pushed o weigh F x)
   unfolding pushed
-  pushed-small empty d m n hx b l = nothing
-  pushed-small (node r f k) d m n {x} hx b l =
-      let y = pushed-small k d m n hx in
-      let follow : SmallRow (d + branches o k) (m + codes weigh k) n (betterRow x (pushed o weigh k x)) =
-      λ i h. from-better (small-more _ _ (omega arith) (omega arith) (hx i h)) (y i h) in
-      let z = clade-small r f _ _ _ b (λ i h. follow i (omega arith)) (λ i h. pushed-small f _ _ n follow i (omega arith)) in
-      from-better (small-more _ _ (omega arith) (omega arith) z) (small-more _ _ (omega arith) (omega arith) (y b l))
+  pushed-small empty k d m n hx b l = nothing
+  pushed-small (node r f q) k d m n {x} hx b l =
+      let y = pushed-small q k d m n hx in
+      let follow : SmallRow (k + lockings o q) (d + branches o q) (m + codes weigh q) n (betterRow x (pushed o weigh q x)) =
+      λ i h. from-better (small-more _ _ _ (omega arith) (omega arith) (omega arith) (hx i h)) (y i h) in
+      let z = clade-small r f _ _ _ _ b (λ i h. follow i (omega arith)) (λ i h. pushed-small f _ _ _ n follow i (omega arith)) in
+      from-better (small-more _ _ _ (omega arith) (omega arith) (omega arith) z) (small-more _ _ _ (omega arith) (omega arith) (omega arith) (y b l))
 
-  pub rooted-small : (F : Forest) (b : ℕ) → From (Small (branches o F) (codes weigh F)) b (rootedRow o weigh F b)
+  pub rooted-small : (F : Forest) (b : ℕ) → From (Small (lockings o F) (branches o F) (codes weigh F)) b (rootedRow o weigh F b)
   unfolding rootedRow
   rooted-small F b =
-      small-more _ _ (omega arith) (omega arith)
-      (pushed-small F 0 0 b (λ i l. this (record { diversity-most = omega arith; code-most = omega arith }) (omega arith)) b (omega arith))
+      small-more _ _ _ (omega arith) (omega arith) (omega arith)
+      (pushed-small F 0 0 0 b (λ i l. this (record { locked-most = omega arith; diversity-most = omega arith; code-most = omega arith }) (omega arith)) b (omega arith))
 
 -- the same by links, and against the sums over all records
 module _ (o : List ℕ) (linked : Linked o) (w : ℕ → ℕ) (r : ℕ) (u : r ≤ size o) where
@@ -109,6 +116,10 @@ module _ (o : List ℕ) (kept : Kept o) (r : ℕ) (u : r ≤ size o) where
 
   pub prices-limit : prices o (tree o r) ≤ mostRecords * 65535
   prices-limit = omega (arith, kept .size-most, all-limit (price o) 65535 (λ q l h. kept .ranged q l h .price-most))
+
+  pub lockings-limit : lockings o (tree o r) ≤ mostTaxa
+  unfolding locks
+  lockings-limit = omega (arith, all-most o (kept .linked) (lock o) r u, locks-most o, kept .taxa-most)
 
   pub codes-limit : codes (weight o) (tree o r) < 2 ^ mostTaxa
   unfolding taxa taxaIn

@@ -12,7 +12,7 @@ use Rattle.outline.specs.Outline.{branch, price}
 use Rattle.laws.specs.Forest.{Forest, empty, node, sumIn, countIn, isGroup}
 use Rattle.laws.specs.Candidate.{Value, plus}
 use Rattle.laws.proofs.Sums.{one-true, one-false, positive, positive-true}
-use Rattle.laws.proofs.Measures.{chosenIn, groupsIn, weightIn, withinIn, costIn, rootedIn, across, unrootedIn, weight-quiet, within-quiet}
+use Rattle.laws.proofs.Measures.{chosenIn, groupsIn, weightIn, lock, locksIn, withinIn, costIn, rootedIn, across, unrootedIn, weight-quiet, within-quiet}
 use Rattle.laws.proofs.Order.{value-path}
 use Rattle.rows.specs.Rows.{taxonRooted, taxonUnrooted, headingRooted, headingUnrooted}
 use Rattle.rows.proofs.BestRows.{Plus, Shifted}
@@ -99,10 +99,10 @@ across-both (suc a) (suc b) x y z g h = refl
 
 module _ (o : List ℕ) (weigh : ℕ → ℕ) where
   abbrev pub rootedWorth : (ℕ → Bool) → Forest → Value
-  rootedWorth p F = record { diversity = rootedIn o p F; cost = costIn o p F; code = weightIn weigh p F }
+  rootedWorth p F = record { locked = locksIn o p F; diversity = rootedIn o p F; cost = costIn o p F; code = weightIn weigh p F }
 
   abbrev pub unrootedWorth : (ℕ → Bool) → Forest → Value
-  unrootedWorth p F = record { diversity = unrootedIn o p F; cost = costIn o p F; code = weightIn weigh p F }
+  unrootedWorth p F = record { locked = locksIn o p F; diversity = unrootedIn o p F; cost = costIn o p F; code = weightIn weigh p F }
 
   -- what a set is worth in a chain, by what it is worth in the first clade and in the rest
   pub record Splits (worth : (ℕ → Bool) → Forest → Value) : Type 0 where
@@ -115,22 +115,40 @@ module _ (o : List ℕ) (weigh : ℕ → ℕ) where
 
   pub rooted-splits : Splits rootedWorth
   rooted-splits = record {
-    agree = λ p q F a. value-path (within-agree p q (branch o) F a) (within-agree p q (price o) F a) (weight-agree p q weigh F a);
+    agree = λ p q F a.
+        value-path (weight-agree p q (lock o) F a) (within-agree p q (branch o) F a) (within-agree p q (price o) F a) (weight-agree p q weigh F a);
     clade-only = λ p r f n z.
-        value-path (omega (arith, within-quiet p (branch o) n z)) (omega (arith, within-quiet p (price o) n z)) (omega (arith, weight-quiet p weigh n z));
+        value-path
+        (omega (arith, weight-quiet p (lock o) n z))
+        (omega (arith, within-quiet p (branch o) n z))
+        (omega (arith, within-quiet p (price o) n z))
+        (omega (arith, weight-quiet p weigh n z));
     rest-only = λ p r f n z h. let C = node r f empty in
-        value-path (omega (arith, within-quiet p (branch o) C z)) (omega (arith, within-quiet p (price o) C z)) (omega (arith, weight-quiet p weigh C z));
-    both = λ p r f n g h. value-path (omega arith) (omega arith) (omega arith);
+        value-path
+        (omega (arith, weight-quiet p (lock o) C z))
+        (omega (arith, within-quiet p (branch o) C z))
+        (omega (arith, within-quiet p (price o) C z))
+        (omega (arith, weight-quiet p weigh C z));
+    both = λ p r f n g h. value-path (omega arith) (omega arith) (omega arith) (omega arith);
   }
 
   pub unrooted-splits : Splits unrootedWorth
   unrooted-splits = record {
-    agree = λ p q F a. value-path (unrooted-agree p q o F a) (within-agree p q (price o) F a) (weight-agree p q weigh F a);
+    agree = λ p q F a.
+        value-path (weight-agree p q (lock o) F a) (unrooted-agree p q o F a) (within-agree p q (price o) F a) (weight-agree p q weigh F a);
     clade-only = λ p r f n z.
-        value-path (across-members _ _ _ _ _ z) (omega (arith, within-quiet p (price o) n z)) (omega (arith, weight-quiet p weigh n z));
+        value-path
+        (omega (arith, weight-quiet p (lock o) n z))
+        (across-members _ _ _ _ _ z)
+        (omega (arith, within-quiet p (price o) n z))
+        (omega (arith, weight-quiet p weigh n z));
     rest-only = λ p r f n z h. let C = node r f empty in
-        value-path (across-rest _ _ _ _ _ (omega arith) h) (omega (arith, within-quiet p (price o) C z)) (omega (arith, weight-quiet p weigh C z));
-    both = λ p r f n g h. value-path (across-both _ _ _ _ _ (omega arith) h ∙ omega arith) (omega arith) (omega arith);
+        value-path
+        (omega (arith, weight-quiet p (lock o) C z))
+        (across-rest _ _ _ _ _ (omega arith) h)
+        (omega (arith, within-quiet p (price o) C z))
+        (omega (arith, weight-quiet p weigh C z));
+    both = λ p r f n g h. value-path (omega arith) (across-both _ _ _ _ _ (omega arith) h ∙ omega arith) (omega arith) (omega arith);
   }
 
   -- the sets of a chain's parts: of the first clade, of the rest, or one of each
@@ -212,10 +230,10 @@ module _ (o : List ℕ) (weigh : ℕ → ℕ) where
   )
 
   pub rooted-taxon : (r : ℕ) (v : Value) → WorthOfSet rootedWorth (node r empty empty) v ↔ (v ≡ taxonRooted o weigh r)
-  rooted-taxon r = taxon-only r (taxonRooted o weigh r) (λ p e. rw e (value-path (omega arith) (omega arith) (omega arith)))
+  rooted-taxon r = taxon-only r (taxonRooted o weigh r) (λ p e. rw e (value-path (omega arith) (omega arith) (omega arith) (omega arith)))
 
   pub unrooted-taxon : (r : ℕ) (v : Value) → WorthOfSet unrootedWorth (node r empty empty) v ↔ (v ≡ taxonUnrooted o weigh r)
-  unrooted-taxon r = taxon-only r (taxonUnrooted o weigh r) (λ p e. rw e (value-path (omega arith) (omega arith) (omega arith)))
+  unrooted-taxon r = taxon-only r (taxonUnrooted o weigh r) (λ p e. rw e (value-path (omega arith) (omega arith) (omega arith) (omega arith)))
 
   -- a clade that is a group has the sets of its members, below its heading
   module _ (r : ℕ) (f : Forest) (group : isGroup f ≡ true) (apart : countIn r f ≡ 0) where
@@ -257,9 +275,9 @@ module _ (o : List ℕ) (weigh : ℕ → ℕ) where
     pub rooted-group : (v : Value) → WorthOfSet rootedWorth (node r f empty) v ↔ Shifted (headingRooted o weigh r) (WorthOfSet rootedWorth f) v
     rooted-group =
         group-sets rooted-splits (headingRooted o weigh r)
-        (λ p e h. rw (e, positive-true (0 + chosenIn p f) (omega arith)) (value-path (omega arith) (omega arith) (omega arith)))
+        (λ p e h. rw (e, positive-true (0 + chosenIn p f) (omega arith)) (value-path (omega arith) (omega arith) (omega arith) (omega arith)))
 
     pub unrooted-group : (v : Value) → WorthOfSet unrootedWorth (node r f empty) v ↔ Shifted (headingUnrooted o weigh r) (WorthOfSet unrootedWorth f) v
     unrooted-group =
         group-sets unrooted-splits (headingUnrooted o weigh r)
-        (λ p e h. rw (e, positive-true (0 + chosenIn p f) (omega arith)) (value-path (omega arith) (omega arith) (omega arith)))
+        (λ p e h. rw (e, positive-true (0 + chosenIn p f) (omega arith)) (value-path (omega arith) (omega arith) (omega arith) (omega arith)))

@@ -6,7 +6,7 @@ use mathlib.Core.List.{List}
 use native.Mathlib.Omega.{arith}
 use Rattle.lists.specs.Lists.{pick}
 use Rattle.outline.specs.Outline.{size, next, first, price, isTaxon}
-use Rattle.outline.proofs.Kept.{Linked}
+use Rattle.outline.specs.Kept.{Linked}
 use Rattle.laws.specs.Forest.{Forest, empty, node, tree}
 use Rattle.laws.specs.Candidate.{plus, heading, none, betterOf, oneAt}
 use Rattle.laws.proofs.Forest.{tree-zero, tree-step, members-cases, disjoint}

@@ -1,51 +1,39 @@
--- The top row holds in every column what the exhaustive search ends with, whichever way is counted.
-use Prim.Native.Nat.{ℕ, zero, suc, _+_, _-_, _≤_, _<_}
+-- The top row shows in every column what the exhaustive search ends with, whichever way is counted.
+use Prim.Native.Nat.{ℕ, zero, suc, _≤_, _<_}
 use mathlib.Core.Path.{_≡_, refl, sym, ap, _∙_}
-use mathlib.Core.Bool.{Bool, true, false, _&&_, and-true, true≢false}
-use mathlib.Core.List.{List, _∷_, map}
+use mathlib.Core.Bool.{Bool, true, false, _&&_, and-true}
+use mathlib.Core.List.{List}
 use mathlib.Core.Logic.{_⊎_, inl, inr}
 use native.Mathlib.Omega.{arith}
-use lib.Dec.{eqb}
-use Rattle.lists.specs.Lists.{pick, one, from}
+use lib.Dec.{eqb, leb}
+use borrow.Author.Tests.{leb-true, leb-false}
+use Rattle.lists.specs.Lists.{pick, one, total}
 use Rattle.outline.specs.Outline.{size, first, branch, price, records, isTaxon}
-use Rattle.outline.proofs.Kept.{Linked}
+use Rattle.outline.specs.Kept.{Linked}
 use Rattle.diversity.specs.Diversity.{chosen, diversity, rooted, unrooted, cost}
 use Rattle.diversity.specs.Behind.{IsSet}
-use Rattle.diversity.specs.Search.{optimum}
+use Rattle.diversity.specs.Search.{Incumbent, nothing, holding, exhaustiveSearch, optimum}
 use Rattle.laws.specs.Forest.{Forest, tree, isGroup}
-use Rattle.laws.specs.Candidate.{Value, nothingWorth, some}
+use Rattle.laws.specs.Candidate.{Value, nothingWorth, Cand, none, some}
+use Rattle.laws.specs.Locks.{locks, locksHeld, lockedSet}
 use Rattle.laws.specs.Numbers.{weight, code, worth}
 use Rattle.laws.proofs.Sums.{one-false, occurs-range, total-term}
 use Rattle.laws.proofs.Forest.{members-cases, sum-all, inside, distinct}
-use Rattle.laws.proofs.Measures.{chosenIn, groupsIn, weight-quiet, within-quiet, unrooted-quiet}
+use Rattle.laws.proofs.Measures.{chosenIn, groupsIn, weightIn, lock, weight-quiet, within-quiet, unrooted-quiet}
 use Rattle.laws.proofs.ByTree.{groups-none, rooted-tree, unrooted-tree, cost-tree}
 use Rattle.laws.proofs.Order.{value-path}
-use Rattle.laws.proofs.Best.{Best, best-same, best-nothing, best-either, best-unique}
-use Rattle.laws.proofs.Marks.{Marked, done, leave, choose, marked-set, map-at}
-use Rattle.laws.proofs.Optimum.{IsWorth, optimum-best}
+use Rattle.laws.proofs.Best.{covers-none, from-some, Best, best-same, best-nothing, best-either, best-unique}
+use Rattle.laws.proofs.Locks.{held-all}
+use Rattle.laws.proofs.Marks.{marksOf, marks-set, marks-chosen}
+use Rattle.laws.proofs.Optimum.{IsWorth, search-ends, search-fails, optimum-fits, optimum-best, locked-lacking}
 use Rattle.rows.specs.Rows.{rootedRow, acrossRow, topRow}
 use Rattle.rows.proofs.Sets.{Agree, WorthOfSet, Splits, noRecord, sum-zero, rootedWorth, unrootedWorth, rooted-splits, unrooted-splits}
 use Rattle.rows.proofs.Push.{Once, rooted-best, across-best}
 
--- ---- a test of record numbers, as marks
-abbrev marks : (ℕ → Bool) → ℕ → ℕ → List ℕ
-marks p a n = map (λ r. one (p r)) (from a n)
-
-marks-marked : (o : List ℕ) (p : ℕ → Bool) (a n : ℕ) → ((r : ℕ) → a ≤ r → r < a + n → isTaxon o r ≡ false → p r ≡ false)
-    → Marked o (from a n) (marks p a n)
-unfolding from
-marks-marked o p a zero h = done
-marks-marked o p a (suc n) h = go (p a) (isTaxon o a) refl refl (marks-marked o p (a + 1) n (λ r l u. h r (omega arith) (omega arith)))
-  where
-    go : (b c : Bool) → p a ≡ b → isTaxon o a ≡ c → Marked o (from (a + 1) n) (marks p (a + 1) n)
-        → Marked o (a ∷ from (a + 1) n) (one (p a) ∷ marks p (a + 1) n)
-    go false c e t m = rw e (leave m)
-    go true true e t m = rw e (choose t m)
-    go true false e t m = absurd (true≢false (sym e ∙ h a (omega arith) (omega arith) t))
-
-eqb-one : (b : Bool) → eqb (one b) 1 ≡ b
-eqb-one true = refl
-eqb-one false = refl
+-- a candidate tells what the search ends with: it is the worth of the set in hand, or, with nothing in hand, lacks a locked taxon
+pub data Tells (o : List ℕ) (way : ℕ) : Incumbent → Cand → Type 0 where
+  complete : {s : List ℕ} → locksHeld o s ≡ locks o → Tells o way (holding s) (some (worth o way s))
+  lacking : {v : Value} → v .locked < locks o → Tells o way nothing (some v)
 
 -- ---- rooted where the test holds, else unrooted
 module _ (o : List ℕ) where
@@ -63,53 +51,56 @@ module _ (o : List ℕ) where
   row-by false = across-best o (weight o)
 
   quiet-by : (b : Bool) (p : ℕ → Bool) (F : Forest) → chosenIn p F ≡ 0 → worthBy b p F ≡ nothingWorth
-  quiet-by true p F z = value-path (within-quiet p (branch o) F z) (within-quiet p (price o) F z) (weight-quiet p (weight o) F z)
-  quiet-by false p F z = value-path (unrooted-quiet o p F z) (within-quiet p (price o) F z) (weight-quiet p (weight o) F z)
+  quiet-by true p F z = value-path (weight-quiet p (lock o) F z) (within-quiet p (branch o) F z) (within-quiet p (price o) F z) (weight-quiet p (weight o) F z)
+  quiet-by false p F z = value-path (weight-quiet p (lock o) F z) (unrooted-quiet o p F z) (within-quiet p (price o) F z) (weight-quiet p (weight o) F z)
 
 module _ (o : List ℕ) (linked : Linked o) where
   worth-tree : (way : ℕ) {s : List ℕ} → IsSet o s → worth o way s ≡ worthBy o (eqb way 0) (chosen s) (tree o 1)
-  unfolding worth diversity code
+  unfolding worth diversity locksHeld code
   worth-tree way {s} m = go (eqb way 0)
     where
-      go : (b : Bool) → _≡_ {A = Value} (record { diversity = pick b (rooted o s) (unrooted o s); cost = cost o s; code = code o s }) (worthBy o b (chosen s) (tree o 1))
-      go true = value-path (rooted-tree o linked s) (cost-tree o linked s) (sum-all o linked (λ r f. pick (chosen s r) (weight o r) 0))
-      go false =
-          value-path (unrooted-tree o linked s m) (cost-tree o linked s) (sum-all o linked (λ r f. pick (chosen s r) (weight o r) 0))
+      weighed : (w : ℕ → ℕ) → total (λ r. pick (chosen s r) (w r) 0) (records o) ≡ weightIn w (chosen s) (tree o 1)
+      weighed w = sum-all o linked (λ r f. pick (chosen s r) (w r) 0)
+
+      go : (b : Bool)
+          → _≡_ {A = Value} (record { locked = locksHeld o s; diversity = pick b (rooted o s) (unrooted o s); cost = cost o s; code = code o s })
+          (worthBy o b (chosen s) (tree o 1))
+      go true = value-path (weighed (lock o)) (rooted-tree o linked s) (cost-tree o linked s) (weighed (weight o))
+      go false = value-path (weighed (lock o)) (unrooted-tree o linked s m) (cost-tree o linked s) (weighed (weight o))
 
   -- a set given by a test of record numbers is one that the search lists
   module _ (p : ℕ → Bool) (taxa : groupsIn p (tree o 1) ≡ 0) where
-    taxa-only : (r : ℕ) → 1 ≤ r → r < 1 + size o → isTaxon o r ≡ false → p r ≡ false
+    taxa-only : (r : ℕ) → 1 ≤ r → r ≤ size o → isTaxon o r ≡ false → p r ≡ false
     unfolding records
     taxa-only r l u e =
-        let group : isGroup (tree o (first o r)) ≡ true = rw (members-cases o linked r l (omega arith) isGroup false true refl (λ q g m. refl), e) in
+        let group : isGroup (tree o (first o r)) ≡ true = rw (members-cases o linked r l u isGroup false true refl (λ q g m. refl), e) in
         one-false (p r)
         (omega (
           arith,
-          total-term (λ r. one (p r && isGroup (tree o (first o r)))) r 1 (size o) l u,
+          total-term (λ r. one (p r && isGroup (tree o (first o r)))) r 1 (size o) l (omega arith),
           sum-all o linked (λ r f. one (p r && isGroup f)),
           ap (λ b. one (p r && b)) group,
           ap one (and-true (p r)),
         ))
 
-    marks-in : IsSet o (marks p 1 (size o))
-    unfolding records
-    marks-in = marked-set (marks-marked o p 1 (size o) taxa-only)
+    marks-in : IsSet o (marksOf p 1 (size o))
+    marks-in = marks-set o p taxa-only
 
-    marks-agree : Agree (chosen (marks p 1 (size o))) p (tree o 1)
-    unfolding records chosen
+    marks-agree : Agree (chosen (marksOf p 1 (size o))) p (tree o 1)
+    unfolding records
     marks-agree t h =
         let range = occurs-range t 1 (size o) (omega (arith, inside o linked 1 (linked .filled) t)) in
-        ap (λ k. eqb k 1) (map-at (λ r. one (p r)) 1 (size o) (t - 1) (omega arith)) ∙ eqb-one _ ∙ ap p (omega arith)
+        marks-chosen p (size o) t (omega arith) (omega arith)
 
-    marks-worth : (way : ℕ) → worthBy o (eqb way 0) p (tree o 1) ≡ worth o way (marks p 1 (size o))
+    marks-worth : (way : ℕ) → worthBy o (eqb way 0) p (tree o 1) ≡ worth o way (marksOf p 1 (size o))
     marks-worth way = sym (worth-tree way marks-in ∙ splits-by o (eqb way 0) .agree _ p (tree o 1) marks-agree)
 
   module _ (way : ℕ) (v : Value) where
     to-worths : (v ≡ nothingWorth) ⊎ WorthOfSet (worthBy o (eqb way 0)) (tree o 1) v → IsWorth o way v
     to-worths (inl e) =
         let z = sum-zero (tree o 1) in
-        (marks noRecord 1 (size o), marks-in noRecord z, e ∙ sym (quiet-by o (eqb way 0) noRecord (tree o 1) z) ∙ marks-worth noRecord z way)
-    to-worths (inr x) = (marks (x .set) 1 (size o), marks-in (x .set) (x .taxa), x .is ∙ marks-worth (x .set) (x .taxa) way)
+        (marksOf noRecord 1 (size o), marks-in noRecord z, e ∙ sym (quiet-by o (eqb way 0) noRecord (tree o 1) z) ∙ marks-worth noRecord z way)
+    to-worths (inr x) = (marksOf (x .set) 1 (size o), marks-in (x .set) (x .taxa), x .is ∙ marks-worth (x .set) (x .taxa) way)
 
     of-worths : IsWorth o way v → (v ≡ nothingWorth) ⊎ WorthOfSet (worthBy o (eqb way 0)) (tree o 1) v
     of-worths (s, m, e) = go (chosenIn (chosen s) (tree o 1)) refl
@@ -118,11 +109,24 @@ module _ (o : List ℕ) (linked : Linked o) where
         go zero z = inl (e ∙ worth-tree way m ∙ quiet-by o (eqb way 0) (chosen s) (tree o 1) z)
         go (suc k) z = inr (record { set = chosen s; taxa = groups-none o linked s m; some = omega arith; is = e ∙ worth-tree way m })
 
-  -- in every column, the top row is what the best set is worth
-  pub top-row : (way b : ℕ) → topRow o way b ≡ some (worth o way (optimum o way b))
+  -- in every column, the top row is the best of all sets that cost at most so much
+  top-best : (way b : ℕ) → Best (IsWorth o way) b (topRow o way b)
   unfolding topRow
-  top-row way b =
-      best-unique
-      (best-same (to-worths way) (of-worths way)
-      (best-either (best-nothing b) (row-by o (eqb way 0) (tree o 1) (distinct o linked 1 (linked .filled)) b)))
-      (optimum-best o way b)
+  top-best way b =
+      best-same (to-worths way) (of-worths way)
+      (best-either (best-nothing b) (row-by o (eqb way 0) (tree o 1) (distinct o linked 1 (linked .filled)) b))
+
+  -- it holds every locked taxon exactly if the search ends with a set, and is then what that set is worth
+  pub top-row : (way b : ℕ) → Tells o way (exhaustiveSearch o way b) (topRow o way b)
+  top-row way b = go (leb (cost o (lockedSet o)) b) refl
+    where
+      short : b < cost o (lockedSet o) → (c : Cand) → Best (IsWorth o way) b c → Tells o way nothing c
+      short h none p = absurd (covers-none (p .covers nothingWorth (to-worths way nothingWorth (inl refl)) (omega arith)))
+      short h (some v) p = let (is, l) = from-some (p .is) in lacking (locked-lacking o way b h is l)
+
+      go : (t : Bool) → leb (cost o (lockedSet o)) b ≡ t → Tells o way (exhaustiveSearch o way b) (topRow o way b)
+      go true e =
+          let fit = leb-true _ _ e in
+          rw (search-ends o way b fit, best-unique (top-best way b) (optimum-best o way b fit))
+          (complete (held-all o (optimum o way b) .0 (optimum-fits o way b fit .locked-held)))
+      go false e = let h = leb-false _ _ e in rw (search-fails o way b h) (short h _ (top-best way b))

@@ -4,8 +4,8 @@ use Prim.Native.Nat.{ℕ, _-_}
 use mathlib.Core.Bool.{Bool, not}
 use mathlib.Core.List.{List}
 use lib.Dec.{eqb}
-use Rattle.lists.specs.Lists.{pick}
-use Rattle.outline.specs.Outline.{branch, price}
+use Rattle.lists.specs.Lists.{pick, one}
+use Rattle.outline.specs.Outline.{branch, price, locked}
 use Rattle.laws.specs.Forest.{Forest, empty, node, tree, isGroup}
 use Rattle.laws.specs.Numbers.{weight}
 use Rattle.laws.specs.Candidate.{Value, nothingWorth, heading, Cand, none, some, betterOf, joinOf, oneAt}
@@ -28,10 +28,10 @@ isLeaf f = not (isGroup f)
 module _ (o : List ℕ) (weigh : ℕ → ℕ) where
   -- what a taxon alone is worth
   abbrev pub taxonRooted : ℕ → Value
-  taxonRooted r = record { diversity = branch o r; cost = price o r; code = weigh r }
+  taxonRooted r = record { locked = one (locked o r); diversity = branch o r; cost = price o r; code = weigh r }
 
   abbrev pub taxonUnrooted : ℕ → Value
-  taxonUnrooted r = record { diversity = 0; cost = price o r; code = weigh r }
+  taxonUnrooted r = record { locked = one (locked o r); diversity = 0; cost = price o r; code = weigh r }
 
   -- a group's heading, with its branch and without
   abbrev pub headingRooted : ℕ → Value

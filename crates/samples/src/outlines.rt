@@ -39,6 +39,13 @@ pub fn put_price(buffer: &mut Buffer, r: usize, price: u32)
     put_long(buffer, 16 * (r - 1) + 8, price);
 }
 
+// Gives record r another plate field.
+pub fn put_plate(buffer: &mut Buffer, r: usize, field: u32)
+    requires { ⌜ (1 ≤ r) × (r ≤ 129) ⌝ }
+{
+    put_long(buffer, 16 * (r - 1) + 12, field);
+}
+
 pub fn blank() -> Buffer {
     [0; 2064]
 }

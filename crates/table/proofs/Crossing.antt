@@ -8,7 +8,7 @@ use lib.ListN.{length}
 use borrow.Author.Tests.{ne-eqb, eqb-false}
 use Rattle.lists.specs.Lists.{pick}
 use Rattle.outline.specs.Outline.{next, first, branch, price, isTaxon}
-use Rattle.outline.proofs.Kept.{Kept}
+use Rattle.outline.specs.Kept.{Kept}
 use Rattle.laws.specs.Candidate.{betterOf}
 use Rattle.laws.specs.Forest.{tree}
 use Rattle.laws.specs.Numbers.{weight}
@@ -16,14 +16,14 @@ use Rattle.laws.proofs.Order.{better-none}
 use Rattle.laws.proofs.Best.{From, from-same}
 use Rattle.rows.specs.Rows.{headingRooted, cladeRow, aloneRow, crossRow}
 use Rattle.rows.proofs.BestRows.{from-join-row}
-use Rattle.rows.proofs.Bounds.{Small, small-more, branches, codes, rooted-small, pushed-small, branches-limit, codes-limit}
+use Rattle.rows.proofs.Bounds.{Small, small-more, lockings, branches, codes, rooted-small, pushed-small, lockings-limit, branches-limit, codes-limit}
 use Rattle.rows.proofs.Steps.{pushed-same, cross-step}
 use Rattle.table.specs.Cells.{cell}
 use Rattle.table.specs.Memory.{Blank, Charges, Charging}
 use Rattle.table.specs.Table.{start, Ready, Done, pushedFrom, rootedFrom, aloneFrom, crossFrom}
 use Rattle.table.specs.Spread.{Crossable, Crossed}
-use Rattle.table.proofs.Places.{gap, own-inside, At, to-next, to-first, branches-here, codes-here}
-use Rattle.table.proofs.Pushing.{small-diversity, small-cost}
+use Rattle.table.proofs.Places.{gap, own-inside, At, to-next, to-first, lockings-here, branches-here, codes-here}
+use Rattle.table.proofs.Pushing.{small-locked, small-diversity, small-cost}
 use Rattle.table.proofs.ByPrice.{join-row, join-same}
 
 module _ {o : List ℕ} {r to w : ℕ} {l₀ : List ℕ} (s : Crossable o r to w l₀) where
@@ -61,9 +61,11 @@ module _ {o : List ℕ} {r to w : ℕ} {l₀ : List ℕ} (s : Crossable o r to w
         to-above = s .to-above;
         apart = inl (omega (arith, s .to-before));
         room = record {
+          most-locked = lockings o (tree o n);
           most-diversity = branches o (tree o n);
           most-code = codes (weight o) (tree o n);
           small = λ b h. rw (s .rest-row b (omega (arith, s .base .wide))) (rooted-small o (weight o) (tree o n) b);
+          locked-fits = omega (arith, lockings-here a, lockings-limit o kept r (s .most));
           diversity-fits = omega (arith, branches-here a, branches-limit o kept r (s .most));
           code-fits = omega (arith, codes-group, codes-limit o kept r (s .most));
         };
@@ -92,9 +94,10 @@ module _ {o : List ℕ} {r to w : ℕ} {l₀ : List ℕ} (s : Crossable o r to w
       blank = none₁;
       none-row = none₁;
       fits = λ i h.
-          let small = pushed-small o (weight o) (tree o f) _ _ i (λ b k. rooted-small o (weight o) (tree o n) b) i (omega arith) in
+          let small = pushed-small o (weight o) (tree o f) _ _ _ i (λ b k. rooted-small o (weight o) (tree o n) b) i (omega arith) in
           rw (pushed₁ i (omega arith))
           (record {
+            locked-fits = omega (arith, small-locked small, lockings-here a, lockings-limit o kept r (s .most));
             diversity-fits = omega (arith, small-diversity small, branches-here a, branches-limit o kept r (s .most));
             cost-fits = omega (arith, small-cost small, s .base .narrow);
           });
@@ -112,18 +115,18 @@ module _ {o : List ℕ} {r to w : ℕ} {l₀ : List ℕ} (s : Crossable o r to w
 
   -- the rest, pushed over the clade
   alone-small : (b : ℕ)
-      → From (Small (branch o r + branches o (tree o f)) (codes (weight o) (tree o f))) b (aloneFrom o r f b)
+      → From (Small (lockings o (tree o f)) (branch o r + branches o (tree o f)) (codes (weight o) (tree o f))) b (aloneFrom o r f b)
   unfolding aloneRow
   alone-small b =
-      from-same (λ v (q, small, e). rw e (record { diversity-most = omega arith; code-most = omega arith }))
+      from-same (λ v (q, small, e). rw e (record { locked-most = omega arith; diversity-most = omega arith; code-most = omega arith }))
       (from-join-row (headingRooted o (weight o) r) _ b (rooted-small o (weight o) (tree o f) (b - price o r)))
 
   -- so is the crossing row
-  pub cross-small : (b : ℕ) → From (Small (branches o (tree o r)) (codes (weight o) (tree o r))) b (crossFrom o r f n b)
+  pub cross-small : (b : ℕ) → From (Small (lockings o (tree o r)) (branches o (tree o r)) (codes (weight o) (tree o r))) b (crossFrom o r f n b)
   cross-small b =
       rw (rw (s .group) at (cross-step o (kept .linked) (weight o) r (s .positive) (s .most) b))
-      (small-more _ _ (omega (arith, branches-here a)) (omega (arith, codes-group))
-      (pushed-small o (weight o) (tree o n) _ _ b (λ i k. alone-small i) b (omega arith)))
+      (small-more _ _ _ (omega (arith, lockings-here a)) (omega (arith, branches-here a)) (omega (arith, codes-group))
+      (pushed-small o (weight o) (tree o n) _ _ _ b (λ i k. alone-small i) b (omega arith)))
 
   pub ready-rest : Ready o n (start w r) to w l₀
   ready-rest =
@@ -136,9 +139,11 @@ module _ {o : List ℕ} {r to w : ℕ} {l₀ : List ℕ} (s : Crossable o r to w
         to-above = s .to-above;
         apart = inl (s .to-before);
         room = record {
+          most-locked = lockings o (tree o f);
           most-diversity = branch o r + branches o (tree o f);
           most-code = codes (weight o) (tree o f);
           small = λ b h. rw (s .alone-row b (omega (arith, s .base .wide))) (alone-small b);
+          locked-fits = omega (arith, lockings-here a, lockings-limit o kept r (s .most));
           diversity-fits = omega (arith, branches-here a, branches-limit o kept r (s .most));
           code-fits = omega (arith, codes-group, codes-limit o kept r (s .most));
         };

@@ -7,10 +7,11 @@ use native.Mathlib.Nat.{mul-le-mul-right}
 use lib.ListN.{length}
 use Rattle.lists.specs.Lists.{pick}
 use Rattle.outline.specs.Outline.{size, next, first, branch, price, isTaxon}
-use Rattle.outline.proofs.Kept.{Later}
+use Rattle.outline.specs.Kept.{Later}
 use Rattle.laws.specs.Forest.{tree}
 use Rattle.laws.specs.Numbers.{weight}
-use Rattle.rows.proofs.Bounds.{branches, prices, codes, all-step, codes-step}
+use Rattle.rows.proofs.Bounds.{lockings, branches, prices, codes, all-step, codes-step}
+use Rattle.laws.proofs.Measures.{lock}
 use Rattle.table.specs.Cells.{cell}
 use Rattle.table.specs.Memory.{Blank, Idle}
 use Rattle.table.specs.Table.{IsTaxon, TerminalFills, start, Base}
@@ -75,6 +76,9 @@ module _ {o : List ℕ} {r w : ℕ} {l : List ℕ} {n f : ℕ} (a : At o r w l n
 
   pub branches-here : branches o (tree o r) ≡ branch o r + (branches o (tree o f) + branches o (tree o n))
   branches-here = rw (a .next-is, a .first-is) (all-step o (a .base .kept .linked) (branch o) r (a .most) (a .positive))
+
+  pub lockings-here : lockings o (tree o r) ≡ lock o r + (lockings o (tree o f) + lockings o (tree o n))
+  lockings-here = rw (a .next-is, a .first-is) (all-step o (a .base .kept .linked) (lock o) r (a .most) (a .positive))
 
   pub prices-here : prices o (tree o r) ≡ price o r + (prices o (tree o f) + prices o (tree o n))
   prices-here = rw (a .next-is, a .first-is) (all-step o (a .base .kept .linked) (price o) r (a .most) (a .positive))

@@ -10,18 +10,18 @@ use lib.ListN.{length}
 use borrow.Author.Tests.{eq-eqb, ne-eqb}
 use Rattle.lists.specs.Lists.{pick}
 use Rattle.outline.specs.Outline.{size, first, branch, price, isTaxon}
-use Rattle.outline.proofs.Kept.{Later}
+use Rattle.outline.specs.Kept.{Later}
 use Rattle.laws.specs.Candidate.{Cand, betterOf}
 use Rattle.laws.specs.Forest.{tree}
 use Rattle.laws.specs.Numbers.{weight}
 use Rattle.laws.proofs.Order.{better-none}
 use Rattle.laws.proofs.Best.{From, nothing, this, from-better}
 use Rattle.rows.specs.Rows.{Row, betterRow, taxonRooted, headingRooted, cladeRow}
-use Rattle.rows.proofs.Bounds.{Small, SmallRow, small-more, branches, codes, pushed-small}
+use Rattle.rows.proofs.Bounds.{Small, SmallRow, small-more, lockings, branches, codes, pushed-small}
 use Rattle.rows.proofs.Steps.{pushed-same, pushed-zero, pushed-step}
-use Rattle.table.specs.Cells.{cell, diversityOf, costOf, codeOf}
+use Rattle.table.specs.Cells.{cell, lockedOf, diversityOf, costOf, codeOf}
 use Rattle.table.specs.Memory.{rowAt, Betters, Charges, Charging, Bettering}
-use Rattle.table.proofs.Places.{gap, base-kept, blank-none, idle-nothing, own-inside, At, to-next, to-first, branches-here, codes-here}
+use Rattle.table.proofs.Places.{gap, base-kept, blank-none, idle-nothing, own-inside, At, to-next, to-first, lockings-here, branches-here, codes-here}
 use Rattle.table.proofs.ByPrice.{join-row, join-same}
 use Rattle.table.specs.Table.{IsTaxon, start, Base, Ready, Done, Followed, TaxonRow, TaxonJoins, pushedFrom}
 
@@ -31,18 +31,23 @@ picked true e = inl e
 picked false e = inr e
 
 -- ---- candidates of bounded size
-module _ {d m b : ℕ} where
-  pub small-diversity : {c : Cand} → From (Small d m) b c → diversityOf c ≤ d
+module _ {k d m b : ℕ} where
+  pub small-locked : {c : Cand} → From (Small k d m) b c → lockedOf c ≤ k
+  unfolding lockedOf
+  small-locked nothing = omega arith
+  small-locked (this p h) = p .locked-most
+
+  pub small-diversity : {c : Cand} → From (Small k d m) b c → diversityOf c ≤ d
   unfolding diversityOf
   small-diversity nothing = omega arith
   small-diversity (this p h) = p .diversity-most
 
-  pub small-code : {c : Cand} → From (Small d m) b c → codeOf c ≤ m
+  pub small-code : {c : Cand} → From (Small k d m) b c → codeOf c ≤ m
   unfolding codeOf
   small-code nothing = omega arith
   small-code (this p h) = p .code-most
 
-  pub small-cost : {c : Cand} → From (Small d m) b c → costOf c ≤ b
+  pub small-cost : {c : Cand} → From (Small k d m) b c → costOf c ≤ b
   unfolding costOf
   small-cost nothing = omega arith
   small-cost (this p h) = h
@@ -73,6 +78,9 @@ module _ {to after rest w : ℕ} {l : List ℕ} (h : Betters l to after rest w) 
 -- ---- pushing at record r
 module _ {o : List ℕ} {r after to w : ℕ} {l₀ : List ℕ} (ready : Ready o r after to w l₀) {n f : ℕ} (a : At o r w l₀ n f) where
   -- what the row has room for
+  abbrev k : ℕ
+  k = ready .room .most-locked
+
   abbrev d : ℕ
   d = ready .room .most-diversity
 
@@ -98,9 +106,11 @@ module _ {o : List ℕ} {r after to w : ℕ} {l₀ : List ℕ} (ready : Ready o 
     to-above = omega (arith, gap w 0 r (a .positive));
     apart = inr (omega (arith, ready .after-before (a .positive)));
     room = record {
+      most-locked = k;
       most-diversity = d;
       most-code = m;
       small = ready .room .small;
+      locked-fits = omega (arith, lockings-here a, ready .room .locked-fits);
       diversity-fits = omega (arith, branches-here a, ready .room .diversity-fits);
       code-fits = omega (arith, codes-here a, ready .room .code-fits);
     };
@@ -131,10 +141,10 @@ module _ {o : List ℕ} {r after to w : ℕ} {l₀ : List ℕ} (ready : Ready o 
     follow₁ : (b : ℕ) → b < w → betterOf (cell l₁ (after + b)) (cell l₁ (rest + b)) ≡ follow b
     follow₁ b h = ap₂ betterOf (x₁ b h) (h₁ .row b h)
 
-    follow-small : SmallRow (d + branches o (tree o n)) (m + codes (weight o) (tree o n)) (w - 1) follow
+    follow-small : SmallRow (k + lockings o (tree o n)) (d + branches o (tree o n)) (m + codes (weight o) (tree o n)) (w - 1) follow
     follow-small b h =
-        from-better (small-more _ _ (omega arith) (omega arith) (ready .room .small b h))
-        (pushed-small o (weight o) (tree o n) d m (w - 1) (ready .room .small) b h)
+        from-better (small-more _ _ _ (omega arith) (omega arith) (omega arith) (ready .room .small b h))
+        (pushed-small o (weight o) (tree o n) k d m (w - 1) (ready .room .small) b h)
 
     rest-inside : 2 * (rest + w) ≤ length l₁
     rest-inside = ⊎-elim (λ (e : rest ≡ 0). omega (arith, own-inside (ready .base) (ready .most))) (λ (e : rest ≡ start w r + w). omega (arith, own-inside (ready .base) (ready .most))) rest-place
@@ -148,7 +158,7 @@ module _ {o : List ℕ} {r after to w : ℕ} {l₀ : List ℕ} (ready : Ready o 
       is-taxon = record { kept = a .base .kept; low = (a .positive); high = ready .most; taxon = taxon }
 
       pub joins-taxon : TaxonJoins o r after rest to w l₁
-      unfolding diversityOf costOf codeOf
+      unfolding lockedOf diversityOf costOf codeOf
       joins-taxon = record {
         is = is-taxon;
         narrow = base₁ .narrow;
@@ -168,6 +178,7 @@ module _ {o : List ℕ} {r after to w : ℕ} {l₀ : List ℕ} (ready : Ready o 
             let weigh : pick (isTaxon o r) (weight o r) 0 ≡ weight o r = rw taxon in
             rw (follow₁ i (omega arith))
             (record {
+              locked-fits = omega (arith, small-locked s, lockings-here a, ready .room .locked-fits);
               diversity-fits = omega (arith, small-diversity s, branches-here a, ready .room .diversity-fits);
               cost-fits = omega (arith, small-cost s, ready .base .narrow);
               code-fits = omega (arith, small-code s, codes-here a, weigh, ready .room .code-fits);
@@ -251,9 +262,11 @@ module _ {o : List ℕ} {r after to w : ℕ} {l₀ : List ℕ} (ready : Ready o 
                 ⊎-elim (λ (e : at ≡ after). rw e (ready .apart)) (λ (e : at ≡ start w r). inl (omega (arith, ready .to-before (a .positive))))
                 at-place;
             room = record {
+              most-locked = k + lockings o (tree o n);
               most-diversity = d + branches o (tree o n);
               most-code = m + codes (weight o) (tree o n);
               small = λ b h. rw (follow₂ b (omega (arith, ready .base .wide))) (follow-small b h);
+              locked-fits = omega (arith, lockings-here a, ready .room .locked-fits);
               diversity-fits = omega (arith, branches-here a, ready .room .diversity-fits);
               code-fits = omega (arith, codes-here a, ready .room .code-fits);
             };
@@ -285,9 +298,10 @@ module _ {o : List ℕ} {r after to w : ℕ} {l₀ : List ℕ} (ready : Ready o 
           blank = λ e b h. rest₃ b h ∙ sym (h₁ .row b h) ∙ blank-none base₁ rest e b h;
           none-row = blank-none base₃ 0;
           fits = λ i h.
-              let s = pushed-small o (weight o) (tree o f) _ _ (w - 1) follow-small i (omega arith) in
+              let s = pushed-small o (weight o) (tree o f) _ _ _ (w - 1) follow-small i (omega arith) in
               rw (members₃ i (omega arith))
               (record {
+                locked-fits = omega (arith, small-locked s, lockings-here a, ready .room .locked-fits);
                 diversity-fits = omega (arith, small-diversity s, branches-here a, ready .room .diversity-fits);
                 cost-fits = omega (arith, small-cost s, ready .base .narrow);
               });

@@ -10,7 +10,7 @@ use lib.ListN.{length}
 use borrow.Author.Tests.{eq-eqb, ne-eqb}
 use Rattle.lists.specs.Lists.{pick}
 use Rattle.outline.specs.Outline.{size, next, branch, price, records, isTaxon}
-use Rattle.outline.proofs.Kept.{Kept}
+use Rattle.outline.specs.Kept.{Kept}
 use Rattle.laws.specs.Candidate.{plus, nothingWorth, heading, none, some, betterOf, joinOf, oneAt}
 use Rattle.laws.specs.Forest.{tree}
 use Rattle.laws.specs.Numbers.{weight}
@@ -18,15 +18,15 @@ use Rattle.laws.proofs.Sums.{total-most}
 use Rattle.laws.proofs.Forest.{tree-zero, tree-step, sum-part}
 use Rattle.laws.proofs.Order.{value-path, better-none}
 use Rattle.rows.specs.Rows.{betterRow, joinRow, taxonRooted, taxonUnrooted, headingRooted, cladeRow, rootedRow, aloneRow, acrossRow, acrossUnder}
-use Rattle.rows.proofs.Bounds.{branches, codes, rooted-small, branches-limit, codes-limit}
+use Rattle.rows.proofs.Bounds.{lockings, branches, codes, rooted-small, lockings-limit, branches-limit, codes-limit}
 use Rattle.rows.proofs.Joins.{join-none, join-at}
 use Rattle.rows.proofs.Steps.{pushed-zero, pushed-step, rooted-step, under-step, cross-under, cross-step}
 use Rattle.table.specs.Cells.{cell}
 use Rattle.table.specs.Memory.{rowAt, Charges, chargeOver, Charging}
 use Rattle.table.specs.Table.{taxonWorth, start, Base, pushedFrom, rootedFrom, acrossFrom, aloneFrom, crossFrom}
 use Rattle.table.specs.Spread.{Running, recordsIn, Spreadable, Spread, TaxonSpreadable, TaxonSpread, Crossable, Crossed, Meets, Met}
-use Rattle.table.proofs.Places.{gap, base-kept, blank-none, own-inside, own-above, At, to-next, to-first, branches-here, prices-here, codes-here}
-use Rattle.table.proofs.Pushing.{picked, small-diversity, small-cost}
+use Rattle.table.proofs.Places.{gap, base-kept, blank-none, own-inside, own-above, At, to-next, to-first, lockings-here, branches-here, prices-here, codes-here}
+use Rattle.table.proofs.Pushing.{picked, small-locked, small-diversity, small-cost}
 use Rattle.table.proofs.Crossing.{cross-small}
 use Rattle.table.proofs.Spreading.{least-kept, shuffle}
 use Rattle.table.proofs.ByPrice.{join-row, join-same}
@@ -115,9 +115,11 @@ module _ {o : List ℕ} {r above to w : ℕ} {l₀ : List ℕ} (s : Spreadable o
               rest-place = ⊎-elim inl (λ (e : rest ≡ start w r + w). inr (omega (arith, own-above a))) (picked (eqb n 0) er);
               rest-inside =
                   ⊎-elim (λ (e : rest ≡ 0). omega (arith, own-inside (a .base) (a .most))) (λ (e : rest ≡ start w r + w). omega (arith, own-inside (a .base) (a .most))) (picked (eqb n 0) er);
+              most-locked = lockings o (tree o n);
               most-diversity = branches o (tree o n);
               most-code = codes (weight o) (tree o n);
               small = λ b h. rw (rest-row b h) (rooted-small o (weight o) (tree o n) b);
+              locked-fits = omega (arith, lockings-here a, lockings-limit o (a .base .kept) r (s .most));
               diversity-fits = omega (arith, branches-here a, branches-limit o (a .base .kept) r (s .most));
               code-fits = omega (arith, weigh, codes-here a, codes-limit o (a .base .kept) r (s .most));
             };
@@ -134,10 +136,10 @@ module _ {o : List ℕ} {r above to w : ℕ} {l₀ : List ℕ} (s : Spreadable o
 
       -- below the groups above, the taxon costs them too
       alone-is : plus (heading 0 above) (taxonUnrooted o (weight o) r) ≡ taxonWorth o r 0 (above + price o r)
-      alone-is = value-path (omega arith) refl (omega arith)
+      alone-is = value-path (omega arith) (omega arith) refl (omega arith)
 
       pair-is : plus (heading 0 above) (taxonRooted o (weight o) r) ≡ taxonWorth o r (branch o r) (above + price o r)
-      pair-is = value-path (omega arith) refl (omega arith)
+      pair-is = value-path (omega arith) (omega arith) refl (omega arith)
 
       across-taxon : (b : ℕ) → acrossFrom o above r b
           ≡ betterOf (betterOf (oneAt (taxonWorth o r 0 (above + price o r)) b) (acrossFrom o above n b))
@@ -205,6 +207,7 @@ module _ {o : List ℕ} {r above to w : ℕ} {l₀ : List ℕ} (s : Spreadable o
               let small = rooted-small o (weight o) (tree o f) i in
               rw (members i (omega arith))
               (record {
+                locked-fits = omega (arith, small-locked small, lockings-here a, lockings-limit o (a .base .kept) r (s .most));
                 diversity-fits = omega (arith, small-diversity small, branches-here a, branches-limit o (a .base .kept) r (s .most));
                 cost-fits = omega (arith, small-cost small, base₂ .narrow);
               });
@@ -329,6 +332,7 @@ module _ {o : List ℕ} {r above to w : ℕ} {l₀ : List ℕ} (s : Spreadable o
                       let small = cross-small crossable i in
                       rw (h₄ .row i (omega arith))
                       (record {
+                        locked-fits = omega (arith, small-locked small, lockings-limit o (a .base .kept) r (s .most));
                         diversity-fits = omega (arith, small-diversity small, branches-limit o (a .base .kept) r (s .most));
                         cost-fits = omega (arith, small-cost small, a .base .narrow);
                       });

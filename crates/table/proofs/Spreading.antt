@@ -2,26 +2,27 @@
 use Prim.Native.Nat.{ℕ, _+_, _*_, _-_, _<_, _≤_}
 use mathlib.Core.Path.{_≡_, refl, sym, ap, ap₂, _∙_}
 use mathlib.Core.Logic.{_⊎_, inl, inr, ⊎-elim}
-use mathlib.Core.Bool.{Bool, true, false}
+use mathlib.Core.Bool.{Bool, true, false, _||_}
 use mathlib.Core.List.{List}
 use native.Mathlib.Omega.{arith}
-use lib.Dec.{leb}
+use lib.Dec.{eqb, leb}
 use lib.ListN.{length}
-use borrow.Author.Tests.{le-leb, le-ltb, ne-eqb}
-use Rattle.lists.specs.Lists.{pick}
-use Rattle.outline.specs.Outline.{first, branch, price}
+use borrow.Author.Tests.{le-leb, le-ltb, lt-leb, ne-eqb, eqb-false}
+use Rattle.lists.specs.Lists.{pick, one}
+use Rattle.lists.proofs.Bools.{both-false}
+use Rattle.outline.specs.Outline.{first, branch, price, locked}
 use Rattle.laws.specs.Candidate.{Value, nothingWorth, heading, beats, Cand, none, some, betterOf, joinOf, chargeOf, oneAt}
 use Rattle.laws.proofs.Order.{better-none, better-comm, better-assoc}
 use Rattle.laws.proofs.Best.{From, this, from-better}
 use Rattle.rows.specs.Rows.{Row, betterRow, joinRow}
 use Rattle.rows.proofs.Bounds.{Small}
 use Rattle.rows.proofs.Joins.{join-none, join-at, join-nothing}
-use Rattle.table.specs.Cells.{cell, diversityOf, costOf, codeOf}
+use Rattle.table.specs.Cells.{cell, lockedOf, diversityOf, costOf, codeOf}
 use Rattle.table.specs.Memory.{rowAt, Written, joinFrom, BetteringBy, Betters, Bettering, ChargesFrom, ChargingFrom, Joins, Joining}
 use Rattle.table.specs.Table.{IsTaxon, mostAbove, taxonWorth, TerminalFilled, Finished, TaxonJoins, TaxonRow, Base}
 use Rattle.table.specs.Spread.{Running, Bettered, Pairable, TaxonSpreadable, TaxonSpread, Tops, Meets, Met, BySingle, ByPairs, ByRow}
 use Rattle.table.proofs.Places.{base-kept, blank-none, idle-nothing, front-inside}
-use Rattle.table.proofs.Pushing.{small-diversity, small-cost, small-code}
+use Rattle.table.proofs.Pushing.{small-locked, small-diversity, small-cost, small-code}
 use Rattle.table.proofs.ByPrice.{le-or-lt, join-below, join-same, join-row}
 use Rattle.table.proofs.Terminal.{taxon, terminal-from, charged-taxon, charged-there}
 
@@ -31,14 +32,19 @@ pub least-kept : (t x : Cand) → betterOf t (some nothingWorth) ≡ t → bette
 least-kept t x e =
     better-assoc t x _ ∙ ap (betterOf t) (better-comm x _) ∙ sym (better-assoc t _ x) ∙ ap (λ c. betterOf c x) e
 
--- what costs something and has no diversity is no better than nothing
-nothing-better : (v : Value) (b : ℕ) → v .diversity ≡ 0 → (v .cost ≡ 0 → ⊥) → betterOf (some nothingWorth) (oneAt v b) ≡ some nothingWorth
+-- what costs something and has no locked taxon and no diversity is no better than nothing
+nothing-better : (v : Value) (b : ℕ) → v .locked ≡ 0 → v .diversity ≡ 0 → (v .cost ≡ 0 → ⊥) → betterOf (some nothingWorth) (oneAt v b) ≡ some nothingWorth
 unfolding betterOf oneAt beats
-nothing-better v b d c = go (leb (v .cost) b)
+nothing-better v b k d c = go (leb (v .cost) b)
   where
     go : (t : Bool) → betterOf (some nothingWorth) (pick t (some v) none) ≡ some nothingWorth
-    go true = rw (d, le-ltb (v .cost) 0 (omega arith), ne-eqb (v .cost) 0 c)
+    go true = rw (k, d, le-ltb (v .cost) 0 (omega arith), ne-eqb (v .cost) 0 c)
     go false = refl
+
+-- what costs more than a column is not in it
+one-beyond : (v : Value) (b : ℕ) → b < v .cost → betterOf (some nothingWorth) (oneAt v b) ≡ some nothingWorth
+unfolding betterOf oneAt
+one-beyond v b h = rw (lt-leb (v .cost) b h)
 
 -- the running optimum is bettered in whatever order
 pub shuffle : (t n s c : Cand) → betterOf (betterOf (betterOf t n) s) c ≡ betterOf t (betterOf (betterOf s n) c)
@@ -65,21 +71,35 @@ module _ {o : List ℕ} {w : ℕ} {l : List ℕ} (running : Running o w l) (r ab
   abbrev single : Value
   single = taxonWorth o r 0 (above + price o r)
 
-  pub bettered-single : above + price o r ≡ 0 → {m : List ℕ} → BetteringBy (2 * w) (some (taxonWorth o r 0 0)) w l m → BySingle o r above w l m
+  -- it betters the columns from its cost on
+  pub bettered-single : {cost : ℕ} → cost ≡ above + price o r → {m : List ℕ} → BetteringBy (2 * w) (some (taxonWorth o r 0 cost)) cost w l m
+      → BySingle o r above w l m
   unfolding oneAt
-  bettered-single z v = record {
-    top = λ b h. rw (z, le-leb 0 b (omega arith)) (v .row b (omega arith) h);
+  bettered-single {cost} e v = record {
+    top = λ b h.
+        rw (← e)
+        (⊎-elim (λ q. rw (le-leb cost b q) (v .row b q h))
+        (λ q. rw (lt-leb cost b q) (v .same (2 * w + b) (λ g. omega arith) ∙ sym (better-none _))) (le-or-lt cost b));
     same = λ k g. v .same k (λ q. omega (arith, g (omega arith)));
   }
 
-  pub bettered-dear : (above + price o r ≡ 0 → ⊥) → BySingle o r above w l l
-  bettered-dear n = record {
+  -- what is no better than nothing betters no column
+  no-better : ((b : ℕ) → b < w → betterOf (some nothingWorth) (oneAt single b) ≡ some nothingWorth) → BySingle o r above w l l
+  no-better idle = record {
     top = λ b h.
-        let e = running .least b h in
-        sym e ∙ ap (betterOf (cell l (2 * w + b))) (sym (nothing-better single b refl n)) ∙ sym (better-assoc _ _ _)
-        ∙ ap (λ c. betterOf c (oneAt single b)) e;
+        let least = running .least b h in
+        sym least ∙ ap (betterOf (cell l (2 * w + b))) (sym (idle b h)) ∙ sym (better-assoc _ _ _) ∙ ap (λ c. betterOf c (oneAt single b)) least;
     same = λ k g. refl;
   }
+
+  -- so it is where it costs more than the last column, and where it costs something and is not locked
+  pub bettered-beyond : w ≤ above + price o r → BySingle o r above w l l
+  bettered-beyond q = no-better (λ b h. one-beyond single b (omega arith))
+
+  pub bettered-dear : {cost : ℕ} → cost ≡ above + price o r → (eqb cost 0 || locked o r) ≡ false → BySingle o r above w l l
+  bettered-dear {cost} e f =
+      let both = both-false _ _ f in
+      no-better (λ b h. nothing-better single b (ap one (both .1)) refl (λ z. eqb-false cost 0 (both .0) (e ∙ z)))
 
 -- ---- the taxon with something of the rest of its chain
 module _ {o : List ℕ} {r rest above to w : ℕ} {l : List ℕ} (s : TaxonSpreadable o r rest above to w l) where
@@ -104,7 +124,7 @@ module _ {o : List ℕ} {r rest above to w : ℕ} {l : List ℕ} (s : TaxonSprea
     alone i h = ap (betterOf (cell l (rest + i))) (blank-none base 0 refl i h) ∙ better-none _
 
     pub joins-pairs : Joins l (2 * w) to above cost rest 0 (2 * w) w
-    unfolding diversityOf costOf codeOf
+    unfolding lockedOf diversityOf costOf codeOf
     joins-pairs = record {
       inside = omega (arith, front-inside base);
       taken = record { inside = s .to-inside; aside = inl (omega (arith, s .to-above)) };
@@ -121,11 +141,16 @@ module _ {o : List ℕ} {r rest above to w : ℕ} {l : List ℕ} (s : TaxonSprea
       there = λ b q h. rw (own-is b q h) (charged-there o r above);
       charge-fits = λ b q h.
           rw (own-is b q h)
-          (record { diversity-fits = omega (arith, pairs .diversity-fits); cost-fits = omega (arith, base .narrow) });
+          (record {
+            locked-fits = omega (arith, pairs .locked-fits);
+            diversity-fits = omega (arith, pairs .diversity-fits);
+            cost-fits = omega (arith, base .narrow);
+          });
       join-fits = λ b q h.
           let small = pairs .small (b - cost) (omega arith) in
           rw (own-is b q h, charged-taxon o r above, alone (b - cost) (omega arith))
           (record {
+            locked-fits = omega (arith, small-locked small, pairs .locked-fits);
             diversity-fits = omega (arith, small-diversity small, pairs .diversity-fits);
             cost-fits = omega (arith, small-cost small, base .narrow);
             code-fits = omega (arith, small-code small, pairs .code-fits);
@@ -158,7 +183,7 @@ module _ {o : List ℕ} {r rest above to w : ℕ} {l : List ℕ} (s : TaxonSprea
   rest-apart = ⊎-elim (λ (e : rest ≡ 0). inr (omega (arith, s .to-above, base .wide))) inl (s .to-before)
 
   joins-rooted : TaxonJoins o r w rest to w l
-  unfolding diversityOf costOf codeOf
+  unfolding lockedOf diversityOf costOf codeOf
   joins-rooted = record {
     is = pairs .is;
     narrow = base .narrow;
@@ -172,11 +197,12 @@ module _ {o : List ℕ} {r rest above to w : ℕ} {l : List ℕ} (s : TaxonSprea
       second-blank = blank-none base rest;
     };
     fits = λ i h.
-        let zero : From (Small (pairs .most-diversity) (pairs .most-code)) i (some nothingWorth) =
-        this {v = nothingWorth} (record { diversity-most = omega arith; code-most = omega arith }) (omega arith) in
+        let zero : From (Small (pairs .most-locked) (pairs .most-diversity) (pairs .most-code)) i (some nothingWorth) =
+        this {v = nothingWorth} (record { locked-most = omega arith; diversity-most = omega arith; code-most = omega arith }) (omega arith) in
         let small = from-better zero (pairs .small i (omega arith)) in
         rw (base .nothing-row i (omega arith))
         (record {
+          locked-fits = omega (arith, small-locked small, pairs .locked-fits);
           diversity-fits = omega (arith, small-diversity small, pairs .diversity-fits);
           cost-fits = omega (arith, small-cost small, base .narrow);
           code-fits = omega (arith, small-code small, pairs .code-fits);
@@ -201,9 +227,11 @@ module _ {o : List ℕ} {r rest above to w : ℕ} {l : List ℕ} (s : TaxonSprea
         is = pairs .is;
         rest-place = pairs .rest-place;
         rest-inside = omega (arith, pairs .rest-inside);
+        most-locked = pairs .most-locked;
         most-diversity = pairs .most-diversity;
         most-code = pairs .most-code;
         small = λ b h. rw (rest-same b h) (pairs .small b h);
+        locked-fits = pairs .locked-fits;
         diversity-fits = pairs .diversity-fits;
         code-fits = pairs .code-fits;
       };

@@ -7,13 +7,14 @@ use native.Mathlib.Omega.{arith}
 use lib.Dec.{eqb}
 use lib.ListN.{length}
 use borrow.Author.Tests.{lt-ltb, le-ltb, eq-eqb}
-use Rattle.outline.specs.Outline.{branch, price}
+use Rattle.lists.proofs.Bools.{one-le}
+use Rattle.outline.specs.Outline.{branch, price, locked}
 use Rattle.laws.specs.Candidate.{Value, nothingWorth, Cand, none, some, betterOf, joinOf, chargeOf}
 use Rattle.laws.proofs.Order.{value-path}
 use Rattle.rows.specs.Rows.{Row}
 use Rattle.rows.proofs.Joins.{join-of-nothing}
 use Rattle.rows.proofs.Sets.{noRecord}
-use Rattle.table.specs.Cells.{cell, diversityOf, costOf}
+use Rattle.table.specs.Cells.{cell, lockedOf, diversityOf, costOf}
 use Rattle.table.specs.Memory.{rowAt, Written, joinOver, Joins, Joining, Adds}
 use Rattle.table.specs.Table.{taxonWorth, terminalRow, Shows, Terminal, TerminalFilled, Finished, TaxonJoins, taxonOver, TaxonRow}
 use Rattle.table.proofs.ByPrice.{le-or-lt, join-below, join-same}
@@ -39,7 +40,7 @@ module _ (o : List ℕ) (r : ℕ) where
   shows-taxon : Shows o r (some taxon) (branch o r)
   shows-taxon = record {
     set = eqb r;
-    held = rw (eq-eqb r r refl) (ap some (value-path (omega arith) (omega arith) (omega arith)));
+    held = rw (eq-eqb r r refl) (ap some (value-path (omega arith) (omega arith) (omega arith) (omega arith)));
     rooted = rw (eq-eqb r r refl) (omega arith);
   }
 
@@ -120,7 +121,7 @@ row-kept j v h = record {
 module _ (o : List ℕ) (r above : ℕ) where
   pub charged-taxon : chargeOf (some (taxon o r)) 0 above ≡ some (taxonWorth o r (branch o r) (above + price o r))
   unfolding joinOf
-  charged-taxon = ap some (value-path (omega arith) refl (omega arith))
+  charged-taxon = ap some (value-path (omega arith) (omega arith) refl (omega arith))
 
   pub charged-there : chargeOf (some (taxon o r)) 0 above ≢ none
   charged-there e = none-some (sym e ∙ charged-taxon)
@@ -149,7 +150,7 @@ module _ {o : List ℕ} {r x y to w : ℕ} {l : List ℕ} (j : TaxonJoins o r x 
     uncharged b q h = join-of-nothing _ ∙ own-is b q h
 
     pub joins-own : Joins l₁ to to 0 p x y y w
-    unfolding diversityOf costOf
+    unfolding lockedOf diversityOf costOf
     joins-own =
         let j₁ = joins-kept j (omega (arith, e)) h₁ len in
         let ranged = j .is .kept .ranged r (j .is .low) (j .is .high) in
@@ -162,7 +163,11 @@ module _ {o : List ℕ} {r x y to w : ℕ} {l : List ℕ} (j : TaxonJoins o r x 
           there = λ b q h. rw (own-is b q h) (charged-there o r 0);
           charge-fits = λ b q h.
               rw (own-is b q h)
-              (record { diversity-fits = omega (arith, ranged .branch-most); cost-fits = omega (arith, j .narrow) });
+              (record {
+                locked-fits = omega (arith, one-le (locked o r));
+                diversity-fits = omega (arith, ranged .branch-most);
+                cost-fits = omega (arith, j .narrow);
+              });
           join-fits = λ b q h. rw (uncharged b q h) (j₁ .fits (b - p) (omega arith));
         }
 

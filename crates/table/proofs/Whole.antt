@@ -13,9 +13,8 @@ use Rattle.laws.specs.Numbers.{weight}
 use Rattle.laws.proofs.Order.{better-same}
 use Rattle.laws.proofs.Best.{this}
 use Rattle.rows.specs.Rows.{rootedRow, topRow}
-use Rattle.rows.proofs.Bounds.{branches-limit, prices-limit, codes-limit}
+use Rattle.rows.proofs.Bounds.{lockings-limit, branches-limit, prices-limit, codes-limit}
 use Rattle.rows.proofs.Steps.{pushed-same, under-none}
-use Rattle.rows.proofs.TopRow.{top-row}
 use Rattle.table.specs.Cells.{cell}
 use Rattle.table.specs.Memory.{Written, Betters, Bettering}
 use Rattle.table.specs.Table.{start, Base, Ready, Done, Fillable, Filled, acrossFrom}
@@ -48,11 +47,13 @@ module _ {o : List ℕ} {w : ℕ} {l₀ : List ℕ} (s : Fillable o w l₀) wher
       to-above = omega arith;
       apart = inr (omega arith);
       room = record {
+        most-locked = 0;
         most-diversity = 0;
         most-code = 0;
         small = λ b h.
             rw (nothing₂ b (omega (arith, s .wide)))
-            (this {v = nothingWorth} (record { diversity-most = omega arith; code-most = omega arith }) (omega arith));
+            (this {v = nothingWorth} (record { locked-most = omega arith; diversity-most = omega arith; code-most = omega arith }) (omega arith));
+        locked-fits = omega (arith, lockings-limit o (s .kept) 1 (s .kept .linked .filled));
         diversity-fits = omega (arith, branches-limit o (s .kept) 1 (s .kept .linked .filled));
         code-fits = omega (arith, codes-limit o (s .kept) 1 (s .kept .linked .filled));
       };
@@ -74,7 +75,7 @@ module _ {o : List ℕ} {w : ℕ} {l₀ : List ℕ} (s : Fillable o w l₀) wher
             v .row b (omega arith) h
             ∙ ap₂ betterOf (h₃ .same (w + b) (λ p. omega arith) (λ p q. omega arith) ∙ nothing₂ b h)
             (ap (λ a. cell l₃ (a + b)) (sym (h₃ .place)) ∙ h₃ .row b h ∙ pushed-same o (weight o) (tree o 1) b (λ i k. nothing₂ i (omega arith)))
-            ∙ rw (eq-eqb way 0 e) at (top-row o (s .kept .linked) way b);
+            ∙ sym (rw (eq-eqb way 0 e));
       }
 
     -- unrooted
@@ -96,6 +97,5 @@ module _ {o : List ℕ} {w : ℕ} {l₀ : List ℕ} (s : Fillable o w l₀) wher
       filled-unrooted {way} n h₄ = record {
         row = λ b h.
             h₄ .top b h ∙ ap (λ c. betterOf c (acrossFrom o 0 1 b)) (h₃ .row b (omega arith) h)
-            ∙ ap (betterOf (some nothingWorth)) (under-none o (s .kept .linked) (weight o) (tree o 1) b)
-            ∙ rw (ne-eqb way 0 n) at (top-row o (s .kept .linked) way b);
+            ∙ ap (betterOf (some nothingWorth)) (under-none o (s .kept .linked) (weight o) (tree o 1) b) ∙ sym (rw (ne-eqb way 0 n));
       }

@@ -12,15 +12,23 @@ use Rattle.table.specs.declared.candidate.Candidate.{Candidate}
 abbrev pub unit : ℕ
 unit = 65536
 
--- the candidate of a score and a set; the score is (diversity + 1) times the unit, less the cost, or 0 for none
+-- times this, a number of locked taxa leaves room for a diversity below it
+abbrev pub lift : ℕ
+lift = 4294967296
+
+-- the candidate of a score and a set; the score is (locked times the lift, and diversity + 1) times the unit, less the cost, or 0 for none
 unfoldable pub seen : ℕ → ℕ → Cand
 seen score set =
-    pick (eqb score 0) none (some (record { diversity = (score - 1) / unit; cost = unit - 1 - (score - 1) % unit; code = set }))
+    pick (eqb score 0) none (some (record { locked = (score - 1) / unit / lift; diversity = (score - 1) / unit % lift; cost = unit - 1 - (score - 1) % unit; code = set }))
 
 unfoldable pub view : Candidate → Cand
 view c = seen (c .score) (c .set)
 
 -- its parts, 0 for none
+unfoldable pub lockedOf : Cand → ℕ
+lockedOf none = 0
+lockedOf (some v) = v .locked
+
 unfoldable pub diversityOf : Cand → ℕ
 diversityOf none = 0
 diversityOf (some v) = v .diversity
@@ -35,13 +43,15 @@ codeOf (some v) = v .code
 
 -- the sums of two candidates keep to their words
 pub record Joinable (c d : Cand) : Type 0 where
-  pub diversity-fits : diversityOf c + diversityOf d < 2 ^ 40
+  pub locked-fits : lockedOf c + lockedOf d < unit - 1
+  pub diversity-fits : diversityOf c + diversityOf d < lift
   pub cost-fits : costOf c + costOf d < unit
   pub code-fits : codeOf c + codeOf d < 2 ^ 64
 
 -- a candidate charged with a heading keeps to its words
 pub record Chargeable (c : Cand) (branch price : ℕ) : Type 0 where
-  pub diversity-fits : branch + diversityOf c < 2 ^ 40
+  pub locked-fits : lockedOf c < unit - 1
+  pub diversity-fits : branch + diversityOf c < lift
   pub cost-fits : price + costOf c < unit
 
 -- the candidate at a cell, which is two numbers of a list

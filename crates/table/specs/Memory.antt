@@ -59,8 +59,8 @@ chargeOver x branch price y b = betterOf (joinFrom (some (heading branch price))
 -- the ways to write a row: bettered by one candidate; the better of two; one below a heading or else another, from the price of
 -- the heading on, or all of it in place; and one below groups that cost `above`, joined with the better of two or else a third,
 -- from a cost on
-abbrev pub BetteringBy : ℕ → Cand → ℕ → List ℕ → List ℕ → Type 0
-BetteringBy to c w l m = Written to 0 w (λ b. betterOf (cell l (to + b)) c) l m
+abbrev pub BetteringBy : ℕ → Cand → ℕ → ℕ → List ℕ → List ℕ → Type 0
+BetteringBy to c lo hi l m = Written to lo hi (λ b. betterOf (cell l (to + b)) c) l m
 
 abbrev pub Bettering : ℕ → ℕ → ℕ → ℕ → List ℕ → List ℕ → Type 0
 Bettering to x y w l m = Written to 0 w (betterRow (rowAt l x) (rowAt l y)) l m

@@ -1,5 +1,5 @@
 -- The unrooted way: what spreading asks, the running optimum that it betters, and what it leaves.
-use Prim.Native.Nat.{ℕ, _+_, _*_, _^_, _<_, _≤_}
+use Prim.Native.Nat.{ℕ, _+_, _*_, _-_, _^_, _<_, _≤_}
 use mathlib.Core.Path.{_≡_}
 use mathlib.Core.Logic.{_⊎_}
 use mathlib.Core.Bool.{false}
@@ -12,7 +12,8 @@ use Rattle.laws.specs.Numbers.{weight}
 use Rattle.laws.proofs.Best.{From}
 use Rattle.rows.specs.Rows.{Row, joinRow}
 use Rattle.rows.proofs.Bounds.{Small, prices}
-use Rattle.table.specs.Cells.{cell, Chargeable}
+use Rattle.laws.proofs.Measures.{lock}
+use Rattle.table.specs.Cells.{unit, lift, cell, Chargeable}
 use Rattle.table.specs.Memory.{rowAt}
 use Rattle.table.specs.Table.{IsTaxon, mostAbove, taxonWorth, taxonOver, start, Base, rootedFrom, acrossFrom, aloneFrom, crossFrom}
 
@@ -59,10 +60,12 @@ pub record Pairable (o : List ℕ) (r rest w : ℕ) (l : List ℕ) : Type 0 wher
   pub is : IsTaxon o r
   pub rest-place : (rest ≡ 0) ⊎ (3 * w ≤ rest)
   pub rest-inside : 2 * (rest + w) ≤ length l
+  pub most-locked : ℕ
   pub most-diversity : ℕ
   pub most-code : ℕ
-  pub small : (b : ℕ) → b < w → From (Small most-diversity most-code) b (cell l (rest + b))
-  pub diversity-fits : branch o r + most-diversity < 2 ^ 40
+  pub small : (b : ℕ) → b < w → From (Small most-locked most-diversity most-code) b (cell l (rest + b))
+  pub locked-fits : lock o r + most-locked < unit - 1
+  pub diversity-fits : branch o r + most-diversity < lift
   pub code-fits : weight o r + most-code < 2 ^ 64
 
 -- what spreading taxon r to the row at `to` asks

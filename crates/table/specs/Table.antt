@@ -9,16 +9,15 @@ use lib.ListN.{length}
 use Rattle.lists.specs.Lists.{pick}
 use Rattle.outline.specs.Outline.{size, branch, price, isTaxon}
 use Rattle.outline.specs.Refusals.{mostRecords}
-use Rattle.outline.proofs.Kept.{Kept}
-use Rattle.diversity.specs.Search.{optimum}
+use Rattle.outline.specs.Kept.{Kept}
 use Rattle.laws.specs.Candidate.{Value, nothingWorth, Cand, none, some, betterOf}
 use Rattle.laws.specs.Forest.{Forest, empty, node, tree}
-use Rattle.laws.specs.Numbers.{weight, worth}
-use Rattle.laws.proofs.Measures.{rootedIn}
-use Rattle.rows.specs.Rows.{Row, pushed, rootedRow, acrossUnder, aloneRow, crossRow}
-use Rattle.rows.proofs.Bounds.{SmallRow, branches, codes}
+use Rattle.laws.specs.Numbers.{weight}
+use Rattle.laws.proofs.Measures.{lock, rootedIn}
+use Rattle.rows.specs.Rows.{Row, pushed, rootedRow, acrossUnder, aloneRow, crossRow, topRow}
+use Rattle.rows.proofs.Bounds.{SmallRow, lockings, branches, codes}
 use Rattle.rows.proofs.Sets.{rootedWorth}
-use Rattle.table.specs.Cells.{unit, cell, Joinable}
+use Rattle.table.specs.Cells.{unit, lift, cell, Joinable}
 use Rattle.table.specs.Memory.{rowAt, Written, Beside, joinOver}
 
 -- record r of an accepted outline is a taxon
@@ -30,7 +29,7 @@ pub record IsTaxon (o : List ℕ) (r : ℕ) : Type 0 where
 
 -- what taxon r alone is worth, at the diversity and the cost that it has
 abbrev pub taxonWorth : List ℕ → ℕ → ℕ → ℕ → Value
-taxonWorth o r d c = record { diversity = d; cost = c; code = weight o r }
+taxonWorth o r d c = record { locked = lock o r; diversity = d; cost = c; code = weight o r }
 
 -- all prices together
 abbrev pub mostAbove : ℕ
@@ -122,12 +121,14 @@ pub record Base (o : List ℕ) (w : ℕ) (l : List ℕ) : Type 0 where
   pub none-row : (b : ℕ) → b < w → cell l b ≡ none
   pub nothing-row : (b : ℕ) → b < w → cell l (w + b) ≡ some nothingWorth
 
--- the branches and the codes of a forest can be added to the candidates of a row
+-- the locks, the branches and the codes of a forest can be added to the candidates of a row
 pub record Room (o : List ℕ) (w : ℕ) (F : Forest) (x : Row) : Type 0 where
+  pub most-locked : ℕ
   pub most-diversity : ℕ
   pub most-code : ℕ
-  pub small : SmallRow most-diversity most-code (w - 1) x
-  pub diversity-fits : most-diversity + branches o F < 2 ^ 40
+  pub small : SmallRow most-locked most-diversity most-code (w - 1) x
+  pub locked-fits : most-locked + lockings o F < unit - 1
+  pub diversity-fits : most-diversity + branches o F < lift
   pub code-fits : most-code + codes (weight o) F < 2 ^ 64
 
 -- what pushing the row at `after` through the chain of record r to the row at `to` asks: both stand before the rows of r
@@ -160,6 +161,6 @@ pub record Fillable (o : List ℕ) (w : ℕ) (l : List ℕ) : Type 0 where
   pub narrow : w < unit
   pub long : 4 * ((size o + 2) * w) ≤ length l
 
--- in each column the top row holds what the exhaustive search ends with
+-- the top row, which shows in each column what the exhaustive search ends with (`top-row` of rows/proofs/TopRow)
 pub record Filled (o : List ℕ) (way w : ℕ) (l : List ℕ) : Type 0 where
-  pub row : (b : ℕ) → b < w → cell l (2 * w + b) ≡ some (worth o way (optimum o way b))
+  pub row : (b : ℕ) → b < w → cell l (2 * w + b) ≡ topRow o way b

@@ -1,17 +1,20 @@
 // A candidate: a set of taxa and what it is worth, or none.
 ghost use mathlib.Core.Path.{_≡_};
 ghost use mathlib.Core.Logic.{_≢_};
-ghost use Prim.Native.Nat.{_<_, _^_};
+ghost use Prim.Native.Nat.{_-_, _<_};
 ghost use Rattle.laws.specs.Candidate.{nothingWorth, none, some, betterOf, joinOf, chargeOf};
-ghost use Rattle.table.specs.Cells.{unit, view, diversityOf, costOf, Joinable, Chargeable};
+ghost use Rattle.table.specs.Cells.{unit, lift, view, lockedOf, diversityOf, costOf, Joinable, Chargeable};
 
 // A score takes a diversity times UNIT, less the cost. Costs are below UNIT, so that scores compare by diversity first and then
 // by cost.
 pub const UNIT: u64 = 65536;
 
+// Times this, a number of locked taxa leaves room for a diversity below it.
+pub const LIFT: u64 = 4294967296;
+
 // Two words that compare as sets do, and are stored and read as they are.
 pub struct Candidate {
-    // (diversity + 1) times UNIT, less the cost; 0 for no set
+    // (locked taxa times LIFT + diversity + 1) times UNIT, less the cost; 0 for no set
     pub score: u64,
     // the taxa as a binary number, the first taxon the most significant digit
     pub set: u64,
@@ -25,17 +28,17 @@ impl Candidate {
     }
 
     // A set by its worth.
-    pub fn some(diversity: u64, cost: u64, set: u64) -> Self
-        requires { ⌜ (diversity < 2 ^ 40) × (cost < unit) ⌝ }
-        ensures { λ c. ⌜ view c ≡ some (record { diversity = diversity; cost = cost; code = set }) ⌝ }
+    pub fn some(locked: u64, diversity: u64, cost: u64, set: u64) -> Self
+        requires { ⌜ (locked < unit - 1) × (diversity < lift) × (cost < unit) ⌝ }
+        ensures { λ c. ⌜ view c ≡ some (record { locked = locked; diversity = diversity; cost = cost; code = set }) ⌝ }
     {
         Self {
-            score: (diversity + 1) * UNIT - cost,
+            score: (locked * LIFT + diversity + 1) * UNIT - cost,
             set,
         }
     }
 
-    // More diversity, then less cost, then the greater number, which has the first taxon on which two sets differ.
+    // More locked taxa, then more diversity, then less cost, then the greater number, which has the first taxon on which two sets differ.
     pub fn better(self, other: Candidate) -> Self
         ensures { λ c. ⌜ view c ≡ betterOf (view self) (view other) ⌝ }
     {
@@ -97,7 +100,17 @@ impl Candidate {
         if self.score == 0 {
             return 0;
         }
-        (self.score - 1) / UNIT
+        (self.score - 1) / UNIT % LIFT
+    }
+
+    // 0 for no set.
+    pub fn locked(self) -> u64
+        ensures { λ d. ⌜ d ≡ lockedOf (view self) ⌝ }
+    {
+        if self.score == 0 {
+            return 0;
+        }
+        (self.score - 1) / UNIT / LIFT
     }
 
     // 0 for no set.

@@ -54,13 +54,13 @@ pub fn fill_row(work: &mut [u64], to: usize, c: Candidate, lo: usize, hi: usize)
     }
 }
 
-// Betters each column of a row by one candidate.
-pub fn better_by(work: &mut [u64], to: usize, c: Candidate, width: usize)
-    requires { ⌜ 2 * (to + width) ≤ length (now work) ⌝ }
-    ensures { λ _. ⌜ BetteringBy to (view c) width (now (work .entry)) (now (work .exit)) ⌝ }
+// Betters every column of a row from lo up to hi by one candidate.
+pub fn better_by(work: &mut [u64], to: usize, c: Candidate, lo: usize, hi: usize)
+    requires { ⌜ 2 * (to + hi) ≤ length (now work) ⌝ }
+    ensures { λ _. ⌜ BetteringBy to (view c) lo hi (now (work .entry)) (now (work .exit)) ⌝ }
 {
-    let mut b = 0;
-    while b < width {
+    let mut b = lo;
+    while b < hi {
         let d = read(work, to + b);
         put(work, to + b, d.better(c));
         b += 1;
@@ -136,7 +136,7 @@ fn follower(work: &[u64], x: usize, y: usize, b: usize, width: usize) -> Candida
 {
     let other = column(work, y, b);
     if x == width {
-        return Candidate::some(0, 0, 0).better(other);
+        return Candidate::some(0, 0, 0, 0).better(other);
     }
     read(work, x + b).better(other)
 }

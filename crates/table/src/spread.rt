@@ -16,18 +16,23 @@ use super::taxa::taxon_of;
 use super::taxa::terminal_row;
 use outline::fields::branch_of;
 use outline::fields::first_of;
+use outline::fields::is_locked;
 use outline::fields::next_of;
 use outline::fields::price_of;
 
 // Betters the running optimum by taxon r alone, below groups that cost `above` together. It has no diversity, so that it is better
-// than nothing only if all of it is free.
+// than nothing only if all of it is free or it is locked.
 fn better_by_single(o: &[u8], r: usize, above: usize, width: usize, work: &mut [u64])
     requires { ⌜ Running (now o) width (now work) × IsTaxon (now o) r ⌝ }
     requires { ⌜ above ≤ mostAbove ⌝ }
     ensures { λ _. ⌜ BySingle (now (o .entry)) r above width (now (work .entry)) (now (work .exit)) ⌝ }
 {
-    if above + price_of(o, r) as usize == 0 {
-        better_by(work, 2 * width, taxon_of(o, r, 0, 0), width);
+    let cost = above + price_of(o, r) as usize;
+    if width <= cost {
+        return;
+    }
+    if (cost == 0) | is_locked(o, r) {
+        better_by(work, 2 * width, taxon_of(o, r, 0, cost as u64), cost, width);
     }
 }
 

@@ -4,7 +4,7 @@ ghost use Prim.Native.Nat.{_<_, _^_};
 ghost use Rattle.outline.specs.Inner.{IsRecord};
 ghost use Rattle.laws.specs.Candidate.{some};
 ghost use Rattle.laws.specs.Numbers.{weight};
-ghost use Rattle.table.specs.Cells.{unit, view};
+ghost use Rattle.table.specs.Cells.{lift, unit, view};
 ghost use Rattle.table.specs.Memory.{Joins, Joining};
 ghost use Rattle.table.specs.Table.{IsTaxon, taxonWorth, TerminalFills, TerminalFilled, Finished, TaxonJoins, TaxonRow};
 use super::candidate::Candidate;
@@ -14,6 +14,7 @@ use super::memory::join_row;
 use super::memory::least;
 use super::memory::read;
 use outline::fields::branch_of;
+use outline::fields::is_locked;
 use outline::fields::is_taxon;
 use outline::fields::price_of;
 
@@ -37,10 +38,10 @@ fn weight_of(o: &[u8], r: usize) -> u64
 // Taxon r by itself, at the diversity and the cost that it has.
 pub fn taxon_of(o: &[u8], r: usize, diversity: u64, cost: u64) -> Candidate
     requires { ⌜ IsTaxon (now o) r ⌝ }
-    requires { ⌜ (diversity < 2 ^ 40) × (cost < unit) ⌝ }
+    requires { ⌜ (diversity < lift) × (cost < unit) ⌝ }
     ensures { λ c. ⌜ view c ≡ some (taxonWorth (now (o .entry)) r diversity cost) ⌝ }
 {
-    Candidate::some(diversity, cost, weight_of(o, r))
+    Candidate::some(is_locked(o, r) as u64, diversity, cost, weight_of(o, r))
 }
 
 // Makes the row of taxon r by itself, as document 000 fills the row of a terminal branch (CALCULATE, its Algorithm 2): zeros in the

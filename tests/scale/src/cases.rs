@@ -60,7 +60,7 @@ fn tree_b() -> Vec<Record> {
     vec![group(0, 2, 0), group(0, 3, 7), taxon(0, 0, 2, 1)]
 }
 
-fn tree_c(length: u32, price: u32) -> Vec<Record> {
+pub(crate) fn tree_c(length: u32, price: u32) -> Vec<Record> {
     vec![
         group(0, 2, 0),
         taxon(3, length, price, 1),

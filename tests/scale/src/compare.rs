@@ -110,7 +110,8 @@ mod tests {
     use crate::expect;
     use crate::frame::Frame;
     use crate::library::{Buffers, ReadBuffers};
-    use crate::outline::bytes;
+    use crate::lock_cases::locking;
+    use crate::outline::{bytes, Record};
     use crate::random::Random;
     use crate::reading::{self, ReadCall};
 
@@ -130,12 +131,24 @@ mod tests {
     }
 
     fn selection() -> (Expected, ChooseObserved) {
+        selection_from(&cases::tree_a())
+    }
+
+    /// Page count 5, way 0: {3, 5} of tree A.
+    fn selection_from(records: &[Record]) -> (Expected, ChooseObserved) {
         let rng = &mut Random::new(1);
-        let mut call = Call::roomy(bytes(&cases::tree_a()), 5, 0, rng);
+        let mut call = Call::roomy(bytes(records), 5, 0, rng);
         (call.marks, call.curve, call.work) = (8, 15, 171);
         let expected = expect::by_exhaustive_search(&call, rng);
         assert_eq!(expected.answer, [0, 0, 12, 5, 2, 0]);
         let observed = right(&expected, &call);
+        (expected, observed)
+    }
+
+    /// The same with columns that no set fits.
+    fn selection_with_a_lock() -> (Expected, ChooseObserved) {
+        let (expected, observed) = selection_from(&locking(&[3], cases::tree_a()));
+        assert_eq!(expected.curve[..6], [0, u32::MAX, 0, u32::MAX, 0, u32::MAX]);
         (expected, observed)
     }
 
@@ -145,6 +158,17 @@ mod tests {
         call.marks = 4;
         let expected = expect::by_exhaustive_search(&call, rng);
         assert_eq!(expected.answer, [9, 0, 0, 0, 0, 0]);
+        let observed = right(&expected, &call);
+        (expected, observed)
+    }
+
+    /// No set fits.
+    fn refusal_by_a_lock() -> (Expected, ChooseObserved) {
+        let rng = &mut Random::new(1);
+        let outline = bytes(&locking(&[3], cases::tree_a()));
+        let call = Call::roomy(outline, 2, 0, rng);
+        let expected = expect::by_exhaustive_search(&call, rng);
+        assert_eq!(expected.answer, [12, 0, 0, 0, 0, 0]);
         let observed = right(&expected, &call);
         (expected, observed)
     }
@@ -177,7 +201,12 @@ mod tests {
 
     #[test]
     fn right_results_have_no_difference() {
-        for (expected, observed) in [selection(), refusal()] {
+        for (expected, observed) in [
+            selection(),
+            selection_with_a_lock(),
+            refusal(),
+            refusal_by_a_lock(),
+        ] {
             assert_eq!(choose(&expected, &observed).differences, [""; 0]);
         }
     }
@@ -185,11 +214,28 @@ mod tests {
     #[test]
     fn any_altered_number_or_byte_of_a_selection_is_noticed() {
         notices_everything(&selection());
+        notices_everything(&selection_with_a_lock());
     }
 
     #[test]
     fn any_touched_number_or_byte_of_a_refusal_is_noticed() {
         notices_everything(&refusal());
+        notices_everything(&refusal_by_a_lock());
+    }
+
+    #[test]
+    fn the_empty_set_in_a_column_that_no_set_fits_is_noticed() {
+        for column in 0..3 {
+            let (expected, mut observed) = selection_with_a_lock();
+            let at = observed.after.curve.start + 2 * column + 1;
+            observed.after.curve.cells[at] = 0;
+            let found = choose(&expected, &observed).differences;
+            let text = format!(
+                "curve[{}] (length 15): expected 4294967295, got 0",
+                2 * column + 1
+            );
+            assert_eq!(found, [text]);
+        }
     }
 
     #[test]
@@ -220,7 +266,13 @@ mod tests {
 
     #[test]
     fn a_refusal_for_a_selection_and_the_reverse_are_noticed() {
-        for ((expected, observed), other) in [(selection(), 9), (refusal(), 0)] {
+        for ((expected, observed), other) in [
+            (selection(), 9),
+            (refusal(), 0),
+            (selection_with_a_lock(), 12),
+            (refusal_by_a_lock(), 0),
+            (refusal_by_a_lock(), 9),
+        ] {
             let mut altered = observed;
             altered.returned = other;
             let found = choose(&expected, &altered).differences;

@@ -4,17 +4,19 @@ use std::fmt;
 
 use crate::call::Call;
 use crate::expect::Expected;
-use crate::headings::{self, Tally};
-use crate::outline::{bytes, groups, taxa, Record, RECORD_BYTES};
+use crate::headings;
+use crate::locks;
+use crate::outline::{bytes, groups, taxa, Record, LOCK, MOST_PLATE, RECORD_BYTES};
 use crate::random::Random;
 use crate::shapes;
+use crate::tally::Tally;
 
 /// A call with any number of faults, at times none.
 pub fn damaged_call(rng: &mut Random) -> Call {
     // Beyond this the buffers would cost more time than they show.
     const MOST_WORK: usize = 200_000;
-    let outline = damaged_outline(rng);
     let count = random_count(rng);
+    let (outline, count) = damaged_outline(count, rng);
     let way = if rng.one_in(12) {
         rng.pick(&[2, 3, 256, 65_536, 1 << 31, u32::MAX])
     } else {
@@ -31,15 +33,39 @@ pub fn damaged_call(rng: &mut Random) -> Call {
     call
 }
 
+/// A refusal's number and what gives it at a record, by its position.
+type Cause = (u32, &'static str, fn(&[Record], usize) -> bool);
+
+/// Causes beside those that hold for every record alike.
+const CAUSES: [Cause; 5] = [
+    (5, "a group's price", |records, at| {
+        !records[at].is_taxon() && records[at].price > 65_535
+    }),
+    (5, "a group's plate", |records, at| {
+        !records[at].is_taxon() && records[at].plate > 0
+    }),
+    (5, "bit 31 alone at a group", |records, at| {
+        !records[at].is_taxon() && records[at].plate == LOCK
+    }),
+    (5, "bit 31 alone at a taxon", |records, at| {
+        records[at].is_taxon() && records[at].plate == LOCK
+    }),
+    (8, "taxa that differ in the lock only", |records, at| {
+        let same = |record: &Record| record.is_taxon() && record.plate == records[at].plate;
+        !records[..at].iter().any(same)
+    }),
+];
+
+/// The refusals that a choosing call can get.
+const REFUSALS: [usize; 10] = [1, 2, 3, 4, 5, 6, 7, 8, 9, 12];
+
 /// What damaged calls came to.
 #[derive(Default)]
 pub struct Outcomes {
     /// How often each refusal was given, and at 0 how often none.
-    numbers: [u64; 10],
-    /// Refusals 5 at a group with a price out of range.
-    group_prices: u64,
-    /// Refusals 5 at a group with a plate.
-    group_plates: u64,
+    numbers: [u64; 13],
+    /// How often for each of the causes.
+    causes: [u64; CAUSES.len()],
     pub tally: Tally,
 }
 
@@ -48,33 +74,37 @@ impl Outcomes {
         let [number, place, ..] = expected.answer;
         self.numbers[number as usize] += 1;
         self.tally.add(records);
-        self.tally.add_set(records, expected);
-        if number == 5 {
-            let record = records[place as usize - 1];
-            self.group_prices += u64::from(!record.is_taxon() && record.price > 65_535);
-            self.group_plates += u64::from(!record.is_taxon() && record.plate > 0);
+        self.tally.add_call(records, expected);
+        for (times, (refusal, _, holds)) in self.causes.iter_mut().zip(CAUSES) {
+            *times += u64::from(number == refusal && holds(records, place as usize - 1));
         }
     }
 
-    /// How often each refusal was given, and refusal 5 for each field of a group that has a range of its own.
+    fn by_cause(&self) -> impl Iterator<Item = (String, u64)> + '_ {
+        let named = CAUSES
+            .iter()
+            .map(|(number, name, _)| format!("{number} by {name}"));
+        named.zip(self.causes)
+    }
+
+    /// How often each refusal was given, and how often for each of the causes.
     pub fn refusals(&self) -> Vec<(String, u64)> {
-        let mut refusals: Vec<(String, u64)> = (1..10)
-            .map(|number| (format!("refusal {number}"), self.numbers[number]))
-            .collect();
-        refusals.push(("refusal 5 by a group's price".into(), self.group_prices));
-        refusals.push(("refusal 5 by a group's plate".into(), self.group_plates));
-        refusals
+        REFUSALS
+            .iter()
+            .map(|&number| (number.to_string(), self.numbers[number]))
+            .chain(self.by_cause())
+            .map(|(name, times)| (format!("refusal {name}"), times))
+            .collect()
     }
 }
 
 impl fmt::Display for Outcomes {
     fn fmt(&self, f: &mut fmt::Formatter) -> fmt::Result {
-        let [accepted, refused @ ..] = &self.numbers;
-        let (prices, plates) = (self.group_prices, self.group_plates);
-        write!(
-            f,
-            "accepted {accepted}, refusals 1 to 9: {refused:?}; 5 by a group's price {prices}, by its plate {plates}"
-        )
+        let accepted = self.numbers[0];
+        let refused = REFUSALS.map(|number| self.numbers[number]);
+        write!(f, "accepted {accepted}, refusals {REFUSALS:?}: {refused:?}")?;
+        self.by_cause()
+            .try_for_each(|(cause, times)| write!(f, "; {cause} {times}"))
     }
 }
 
@@ -87,11 +117,12 @@ fn random_count(rng: &mut Random) -> u32 {
     }
 }
 
-/// An outline with any number of faults, at times none.
-pub fn damaged_outline(rng: &mut Random) -> Vec<u8> {
+/// An outline with any number of faults, at times none, and a page count for it: the given one or one about the locked taxa.
+pub fn damaged_outline(count: u32, rng: &mut Random) -> (Vec<u8>, u32) {
     let mut records = any_size(rng);
     shapes::fill_randomly(&mut records, 40, rng);
     headings::fill_at_times(&mut records, 40, rng);
+    let count = locks::fill_at_times(&mut records, count, 400, rng);
     for _ in 0..rng.pick(&[0, 0, 1, 1, 1, 2, 3]) {
         damage_record(&mut records, rng);
     }
@@ -104,7 +135,7 @@ pub fn damaged_outline(rng: &mut Random) -> Vec<u8> {
     if rng.one_in(8) {
         damage_size(&mut outline, rng);
     }
-    outline
+    (outline, count)
 }
 
 /// Mostly small, but also at and beyond the limits of records and taxa.
@@ -134,10 +165,12 @@ pub(crate) fn any_size(rng: &mut Random) -> Vec<Record> {
 fn damage_record(records: &mut [Record], rng: &mut Random) {
     let at = rng.index(records.len());
     let other = rng.index(records.len());
-    match rng.below(13) {
+    match rng.below(14) {
         0 => records[at].length = rng.pick(&[0, 1_000_000, 1_000_001, 1 << 24, u32::MAX]),
         1 => records[at].price = rng.pick(&[0, 1, 65_535, 65_536, u32::MAX]),
-        2 => records[at].plate = rng.pick(&[0, 1, u32::MAX]),
+        2 => {
+            records[at].plate = rng.pick(&[0, 1, MOST_PLATE, LOCK, LOCK, LOCK, LOCK + 1, u32::MAX])
+        }
         3 | 4 => records[at].next = odd_link(at, records.len(), rng),
         5 => records[at].first = odd_link(at, records.len(), rng),
         6 => records[at].next = records[other].next,
@@ -149,6 +182,7 @@ fn damage_record(records: &mut [Record], rng: &mut Random) {
         }
         9 => records.swap(at, other),
         10 => damage_group(records, rng),
+        11 => records[at].plate ^= LOCK,
         _ => repeat_plate(records, rng),
     }
 }
@@ -179,16 +213,18 @@ fn damage_group(records: &mut [Record], rng: &mut Random) {
     }
     let group = &mut records[rng.pick(&groups)];
     if rng.one_in(3) {
-        group.plate = rng.pick(&[1, 256, 1 << 16, 1 << 31, u32::MAX]);
+        group.plate = rng.pick(&[1, 256, 1 << 16, LOCK, u32::MAX]);
     } else {
         group.price = rng.pick(&[65_535, 65_536, 65_537, 1 << 24, 1 << 31, u32::MAX]);
     }
 }
 
+/// The whole field or the plate number only: the lock may be the other way.
 fn repeat_plate(records: &mut [Record], rng: &mut Random) {
     let taxa = taxa(records);
     if !taxa.is_empty() {
-        records[rng.pick(&taxa)].plate = records[rng.pick(&taxa)].plate;
+        let plate = records[rng.pick(&taxa)].plate;
+        records[rng.pick(&taxa)].plate = plate ^ rng.pick(&[0, LOCK]);
     }
 }
 
@@ -247,7 +283,7 @@ mod tests {
     }
 
     #[test]
-    fn outcomes_tell_a_groups_price_from_its_plate() {
+    fn outcomes_tell_the_causes_of_a_refusal() {
         let mut outcomes = Outcomes::default();
         let mut add = |alter: fn(&mut [Record])| {
             let mut records = tree_a();
@@ -258,29 +294,60 @@ mod tests {
         add(|r| r[1].price = 65_536);
         add(|r| r[0].price = u32::MAX);
         add(|r| r[1].plate = 1);
+        add(|r| r[1].plate = LOCK);
         add(|r| r[2].price = 65_536);
+        add(|r| r[2].plate = LOCK);
         add(|r| r[1].length = 1_000_001);
         add(|r| r[4].next = 1);
+        add(|r| r[3].plate = 11);
+        add(|r| r[3].plate = LOCK + 11);
+        add(|r| r[2].plate = LOCK + 13);
+        let place = 0;
+        outcomes.add(&tree_a(), &Expected::refused(Refusal { number: 12, place }));
         let times: Vec<u64> = outcomes
             .refusals()
             .iter()
             .map(|(_, times)| *times)
             .collect();
-        assert_eq!(times, [0, 0, 0, 0, 5, 1, 0, 0, 0, 2, 1]);
-        assert_eq!((outcomes.tally.with, outcomes.tally.without), (2, 4));
+        assert_eq!(times, [0, 0, 0, 0, 7, 1, 0, 3, 0, 1, 2, 2, 1, 1, 2]);
+        let Tally { headings, locks } = outcomes.tally;
+        assert_eq!((headings.with, headings.without), (2, 10));
+        assert_eq!((locks.with, locks.without, locks.refused), (3, 9, 1));
         assert_eq!(
             outcomes.to_string(),
-            "accepted 0, refusals 1 to 9: [0, 0, 0, 0, 5, 1, 0, 0, 0]; 5 by a group's price 2, by its plate 1"
+            "accepted 0, refusals [1, 2, 3, 4, 5, 6, 7, 8, 9, 12]: [0, 0, 0, 0, 7, 1, 0, 3, 0, 1]; 5 by a group's price 2; \
+             5 by a group's plate 2; 5 by bit 31 alone at a group 1; 5 by bit 31 alone at a taxon 1; \
+             8 by taxa that differ in the lock only 2"
         );
     }
 
     #[test]
-    fn damaged_outlines_keep_headings() {
+    fn a_repeated_plate_is_refused_whatever_the_locks() {
+        let rng = &mut Random::new(3);
+        let mut locks = [0; 2];
+        for _ in 0..500 {
+            let mut records = tree_a();
+            repeat_plate(&mut records, rng);
+            let numbers: Vec<u32> = records[2..].iter().map(Record::plate_number).collect();
+            let refusal = rules::check(&bytes(&records)).map(|refusal| refusal.number);
+            let expected = (numbers != [11, 12, 13]).then_some(8);
+            assert_eq!(refusal, expected, "{records:?}");
+            if refusal.is_some() {
+                locks[usize::from(locks::has_any(&records))] += 1;
+            }
+        }
+        assert!(locks[0] > 100 && locks[1] > 100, "{locks:?}");
+    }
+
+    #[test]
+    fn damaged_outlines_keep_headings_and_locks() {
         let rng = &mut Random::new(2);
         let mut tally = Tally::default();
         for _ in 0..1_000 {
-            tally.add(&records(&damaged_outline(rng)));
+            tally.add(&records(&damaged_outline(40, rng).0));
         }
-        assert!(tally.with > 500 && tally.without > 250, "{tally:?}");
+        let Tally { headings, locks } = tally;
+        assert!(headings.with > 500 && headings.without > 250, "{tally:?}");
+        assert!(locks.with > 500 && locks.without > 250, "{tally:?}");
     }
 }

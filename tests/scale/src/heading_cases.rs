@@ -82,7 +82,7 @@ fn dear() -> Vec<Case> {
 }
 
 /// Two groups of length 1: in the first taxa of lengths 4 and 3, in the second one of 6, each of price 1.
-fn two_groups(heading: u32) -> Vec<Record> {
+pub(crate) fn two_groups(heading: u32) -> Vec<Record> {
     vec![
         group(0, 2, 0),
         headed(heading, group(5, 3, 1)),
@@ -114,12 +114,12 @@ fn one_heading_for_two() -> Vec<Case> {
 }
 
 /// A free taxon of this length alone below a heading.
-fn lone(heading: u32, length: u32) -> Vec<Record> {
+pub(crate) fn lone(heading: u32, length: u32) -> Vec<Record> {
     vec![headed(heading, group(0, 2, 0)), taxon(0, length, 0, 1)]
 }
 
 /// A taxon of length 4 and price 1 and a free one of length 0, below a heading of 2.
-fn beside() -> Vec<Record> {
+pub(crate) fn beside() -> Vec<Record> {
     vec![
         headed(2, group(0, 2, 0)),
         taxon(3, 4, 1, 1),
@@ -188,15 +188,19 @@ fn above_the_parting() -> Vec<Case> {
     ]
 }
 
-/// 125 groups one below the other, each of length 1 and price 32, and in the last one two taxa of length 1 and price 48: one taxon
-/// is 126 for 4,048, both are 127 for 4,096, and 2 unrooted.
-fn deep() -> Vec<Case> {
+/// 125 groups one below the other, each of length 1 and price 32, and in the last one two taxa of length 1 and price 48.
+pub(crate) fn tree_of_125_headings() -> Vec<Record> {
     let mut records: Vec<Record> = (2..=126)
         .map(|first| headed(32, group(0, first, 1)))
         .collect();
     records.extend([taxon(127, 1, 48, 1), taxon(0, 1, 48, 2)]);
+    records
+}
+
+/// One taxon is 126 for 4,048, both are 127 for 4,096, and 2 unrooted.
+fn deep() -> Vec<Case> {
     let given = |count, way, numbers, chosen: &[usize]| {
-        let call = (records.clone(), count, way);
+        let call = (tree_of_125_headings(), count, way);
         case("125 headings", call, numbers, chosen)
     };
     vec![

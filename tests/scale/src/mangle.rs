@@ -1,7 +1,7 @@
 //! Calls that read a text: sound ones, oddly spelled, and ones with faults in the text, the pairs or the buffer.
 
 use crate::damage;
-use crate::outline::{taxa, Record, RECORD_BYTES};
+use crate::outline::{taxa, Record, LOCK, RECORD_BYTES};
 use crate::random::Random;
 use crate::reading::ReadCall;
 use crate::shapes;
@@ -158,6 +158,8 @@ fn damage_pairs(fault: Fault, pairs: &mut Vec<u32>, rng: &mut Random) {
     match fault {
         Fault::PairMissing => drop(pairs.drain(at..at + 2)),
         Fault::PairDoubled => pairs.extend([pair[0], rng.pick(&[pair[1], 0])]),
+        // Bit 31 locks a taxon in an outline, and is part of a pair's number.
+        Fault::PairUnmatched if rng.one_in(4) => pairs[at] ^= LOCK,
         Fault::PairUnmatched => {
             let plate = rng.pick(&[0, 1, pair[0] ^ 1, 1_000_000_000, u32::MAX]);
             pairs.extend([plate, pair[1]]);
@@ -167,5 +169,29 @@ fn damage_pairs(fault: Fault, pairs: &mut Vec<u32>, rng: &mut Random) {
             1 => pairs.push(rng.bits() as u32),
             _ => drop(pairs.pop()),
         },
+    }
+}
+
+#[cfg(test)]
+mod tests {
+    use super::*;
+    use crate::reading::expected;
+
+    #[test]
+    fn an_unmatched_pair_is_refused_also_where_it_differs_in_bit_31_only() {
+        let rng = &mut Random::new(1);
+        let (mut added, mut altered) = (0, 0);
+        for _ in 0..1_000 {
+            let mut call = sound_call(rng);
+            let before = call.pairs.clone();
+            damage_pairs(Fault::PairUnmatched, &mut call.pairs, rng);
+            let differing = before.iter().zip(&call.pairs).filter(|(a, b)| a != b);
+            let flipped = differing.filter(|(a, b)| *a ^ *b == LOCK).count();
+            added += usize::from(call.pairs.len() > before.len());
+            altered += flipped;
+            assert_eq!(expected(&call).answer[0], 11);
+        }
+        assert!(added > 600 && altered > 150, "{added}, {altered}");
+        assert_eq!(added + altered, 1_000);
     }
 }

@@ -7,18 +7,32 @@ pub const UNROOTED: u32 = 1;
 
 pub const RECORD_BYTES: usize = 16;
 
+/// Bit 31 of a taxon's plate field, which locks it (document 02, §4).
+pub const LOCK: u32 = 1 << 31;
+/// The lower 31 bits, and the greatest plate number.
+pub const MOST_PLATE: u32 = 2_147_483_647;
+
 #[derive(Clone, Copy, Debug, Default, PartialEq, Eq)]
 pub struct Record {
     pub next: u16,
     pub first: u16,
     pub length: u32,
     pub price: u32,
+    /// The whole field: a taxon's plate number and its lock.
     pub plate: u32,
 }
 
 impl Record {
     pub fn is_taxon(&self) -> bool {
         self.first == 0
+    }
+
+    pub fn is_locked(&self) -> bool {
+        self.is_taxon() && self.plate & LOCK != 0
+    }
+
+    pub fn plate_number(&self) -> u32 {
+        self.plate & MOST_PLATE
     }
 }
 
@@ -107,6 +121,26 @@ mod tests {
         assert_eq!(bytes(&[record]), expected);
         assert_eq!(records(&expected), [record]);
         assert_eq!(records(&expected[..15]), []);
+    }
+
+    #[test]
+    fn bit_31_is_no_part_of_the_plate_number_and_locks_taxa_only() {
+        let record = |first, plate| Record {
+            first,
+            plate,
+            ..Record::default()
+        };
+        for (field, number, locked) in [
+            (1, 1, false),
+            (2_147_483_647, 2_147_483_647, false),
+            (2_147_483_648, 0, true),
+            (2_147_483_649, 1, true),
+            (4_294_967_295, 2_147_483_647, true),
+        ] {
+            assert_eq!(record(0, field).plate_number(), number);
+            assert_eq!(record(0, field).is_locked(), locked);
+            assert!(!record(2, field).is_locked());
+        }
     }
 
     #[test]

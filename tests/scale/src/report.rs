@@ -1,7 +1,8 @@
 //! The counts of everything compared, and the printing of what differed.
 
 use crate::compare::Comparison;
-use crate::headings::Tally;
+use crate::tally::Tally;
+use crate::{headings, locks};
 
 /// The comparing stops after so many differing calls.
 const MOST_DIFFERENCES: u64 = 10;
@@ -73,9 +74,15 @@ impl Report {
         }
     }
 
-    /// Prints how many outlines have headings. At least half are to have some, a quarter none, and some sets are to pay for one.
-    pub fn headings(&mut self, run: &str, tally: Tally) {
-        let Tally {
+    /// Prints how many outlines have headings and locks and what the calls with them came to. Fails the whole if it is too few.
+    pub fn tally(&mut self, run: &str, tally: &Tally) {
+        self.headings(run, tally.headings);
+        self.locks(run, tally.locks);
+    }
+
+    /// At least half are to have some, a quarter none, and some sets are to pay for one.
+    fn headings(&mut self, run: &str, tally: headings::Tally) {
+        let headings::Tally {
             with,
             without,
             paid,
@@ -89,7 +96,35 @@ impl Report {
             ("an outline without", without, outlines.div_ceil(4)),
             ("a set that pays for a heading", paid, with / 20),
         ];
-        for (what, times, least) in wanted {
+        self.require_all(run, &wanted);
+    }
+
+    /// At least half are to have some, a quarter none, and all that can come of them is to come now and then.
+    fn locks(&mut self, run: &str, tally: locks::Tally) {
+        let (with, without) = (tally.with, tally.without);
+        let outlines = with + without;
+        let wanted = [
+            ("with locks", with, outlines.div_ceil(2)),
+            ("without locks", without, outlines.div_ceil(4)),
+            (
+                "with neither locks nor headings",
+                tally.neither,
+                outlines / 20,
+            ),
+            ("all taxa locked", tally.all, with / 20),
+            ("a call refused by 12", tally.refused, with / 20),
+            ("a column that no set fits", tally.blank, with / 20),
+            ("a set in the last column only", tally.tight, with / 100),
+            ("locks and diversity 0", tally.no_diversity, with / 200),
+            ("a lock below a paid heading", tally.headed, with / 50),
+        ];
+        let counts = wanted.map(|(what, times, _)| format!("{what} {times}"));
+        println!("   {run}: {}", counts.join(", "));
+        self.require_all(run, &wanted);
+    }
+
+    fn require_all(&mut self, run: &str, wanted: &[(&str, u64, u64)]) {
+        for &(what, times, least) in wanted {
             self.require(&format!("{what}, {run}"), times, least);
         }
     }
@@ -219,13 +254,87 @@ mod tests {
             let mut report = Report::default();
             report.headings(
                 "a run",
-                Tally {
+                headings::Tally {
                     with,
                     without,
                     paid,
                 },
             );
             assert_eq!(report.passed(), enough, "{with}, {without}, {paid}");
+        }
+    }
+
+    #[test]
+    fn too_few_locks_fail() {
+        let enough = locks::Tally {
+            with: 200,
+            without: 200,
+            neither: 20,
+            all: 10,
+            refused: 10,
+            blank: 10,
+            tight: 2,
+            no_diversity: 1,
+            headed: 4,
+        };
+        let passed = |alter: fn(&mut locks::Tally)| {
+            let mut tally = enough;
+            alter(&mut tally);
+            let mut report = Report::default();
+            report.locks("a run", tally);
+            report.passed()
+        };
+        assert!(passed(|_| {}));
+        let too_few: [fn(&mut locks::Tally); 9] = [
+            |tally| tally.with -= 1,
+            |tally| tally.without = 66,
+            |tally| tally.neither -= 1,
+            |tally| tally.all -= 1,
+            |tally| tally.refused -= 1,
+            |tally| tally.blank -= 1,
+            |tally| tally.tight -= 1,
+            |tally| tally.no_diversity -= 1,
+            |tally| tally.headed -= 1,
+        ];
+        for (at, alter) in too_few.into_iter().enumerate() {
+            assert!(!passed(alter), "{at}");
+        }
+    }
+
+    #[test]
+    fn both_parts_of_a_tally_can_fail() {
+        let some_headings = headings::Tally {
+            with: 1,
+            without: 1,
+            paid: 1,
+        };
+        let some_locks = locks::Tally {
+            with: 1,
+            without: 1,
+            ..locks::Tally::default()
+        };
+        for (headings, locks, passes) in [
+            (some_headings, some_locks, true),
+            (
+                headings::Tally {
+                    with: 0,
+                    ..some_headings
+                },
+                some_locks,
+                false,
+            ),
+            (
+                some_headings,
+                locks::Tally {
+                    with: 0,
+                    ..some_locks
+                },
+                false,
+            ),
+        ] {
+            let mut report = Report::default();
+            report.tally("a run", &Tally { headings, locks });
+            assert_eq!(report.passed(), passes);
         }
     }
 }

@@ -1,7 +1,8 @@
-//! Document 01's table of refusals, judged row by row, and its finder; a group's price is document 02's (§2).
+//! Document 01's table of refusals, judged row by row, and its finder. A group's price (§2), the 31 bits of a plate and refusal
+//! 12 (§4) are document 02's.
 
 use crate::call::{needed, Call};
-use crate::outline::{self, Record, RECORD_BYTES};
+use crate::outline::{self, Record, MOST_PLATE, RECORD_BYTES};
 
 /// A refusal's number in the table, and its place: a record number, or 0.
 #[derive(Clone, Copy, Debug, PartialEq, Eq)]
@@ -10,24 +11,25 @@ pub struct Refusal {
     pub place: u32,
 }
 
-/// The first of refusals 1 to 9 that holds.
-pub fn choose(call: &Call) -> Option<Refusal> {
-    choose_by(fields_fit, call)
-}
+const NO_SET_FITS: Refusal = Refusal {
+    number: 12,
+    place: 0,
+};
 
-/// The same by document 01 alone, where a group has no price.
-pub fn choose_by_document_01(call: &Call) -> Option<Refusal> {
-    choose_by(fields_fit_document_01, call)
-}
-
-fn choose_by(fit: fn(&Record) -> bool, call: &Call) -> Option<Refusal> {
+/// What `solve` finds, or the first of refusals 1 to 9 and 12 that holds. `solve` is given an accepted outline and finds nothing
+/// where no set that holds every locked taxon fits the page count.
+pub fn choose<T>(call: &Call, solve: impl FnOnce(&[Record]) -> Option<T>) -> Result<T, Refusal> {
     let records = outline::records(&call.outline);
-    unknown_way(call.way)
+    let refusal = unknown_way(call.way)
         .or_else(|| partial_record(&call.outline))
         .or_else(|| too_many_records(&records))
         .or_else(|| count_too_large(call.count))
-        .or_else(|| content_by(fit, &records))
-        .or_else(|| buffer_too_short(call, records.len()))
+        .or_else(|| content(&records))
+        .or_else(|| buffer_too_short(call, records.len()));
+    match refusal {
+        Some(refusal) => Err(refusal),
+        None => solve(&records).ok_or(NO_SET_FITS),
+    }
 }
 
 /// The first of refusals 2, 3 and 5 to 8 that holds.
@@ -40,30 +42,26 @@ pub fn check(outline: &[u8]) -> Option<Refusal> {
 
 /// The number of the record of the taxon with this plate; 0 where the finder's part is empty.
 pub fn find(outline: &[u8], plate: u32) -> u32 {
-    if check(outline).is_some() {
+    if plate > MOST_PLATE || check(outline).is_some() {
         return 0;
     }
     let records = outline::records(outline);
     numbers(&records)
         .find(|&number| {
             let record = records[number - 1];
-            record.is_taxon() && record.plate == plate
+            record.is_taxon() && record.plate_number() == plate
         })
         .map_or(0, |number| number as u32)
 }
 
 pub(crate) fn content(records: &[Record]) -> Option<Refusal> {
-    content_by(fields_fit, records)
-}
-
-fn content_by(fit: fn(&Record) -> bool, records: &[Record]) -> Option<Refusal> {
-    field_out_of_range(fit, records)
+    field_out_of_range(fields_fit, records)
         .or_else(|| bad_link(records))
         .or_else(|| too_many_taxa(records))
-        .or_else(|| duplicate_plate(records))
+        .or_else(|| duplicate_plate(Record::plate_number, records))
 }
 
-fn numbers(records: &[Record]) -> std::ops::RangeInclusive<usize> {
+pub(crate) fn numbers(records: &[Record]) -> std::ops::RangeInclusive<usize> {
     1..=records.len()
 }
 
@@ -81,11 +79,11 @@ fn at_lowest(
     Some(Refusal { number, place })
 }
 
-fn unknown_way(way: u32) -> Option<Refusal> {
+pub(crate) fn unknown_way(way: u32) -> Option<Refusal> {
     without_place(1, way != 0 && way != 1)
 }
 
-fn partial_record(outline: &[u8]) -> Option<Refusal> {
+pub(crate) fn partial_record(outline: &[u8]) -> Option<Refusal> {
     without_place(
         2,
         outline.is_empty() || !outline.len().is_multiple_of(RECORD_BYTES),
@@ -96,33 +94,24 @@ pub(crate) fn too_many_records(records: &[Record]) -> Option<Refusal> {
     without_place(3, records.len() > 127)
 }
 
-fn count_too_large(count: u32) -> Option<Refusal> {
+pub(crate) fn count_too_large(count: u32) -> Option<Refusal> {
     without_place(4, count > 4_096)
 }
 
-fn field_out_of_range(fit: fn(&Record) -> bool, records: &[Record]) -> Option<Refusal> {
+pub(crate) fn field_out_of_range(fit: fn(&Record) -> bool, records: &[Record]) -> Option<Refusal> {
     at_lowest(5, records, |records, number| !fit(&records[number - 1]))
 }
 
 fn fields_fit(record: &Record) -> bool {
     let plate_fits = if record.is_taxon() {
-        record.plate >= 1
+        record.plate_number() >= 1
     } else {
         record.plate == 0
     };
     record.length <= 1_000_000 && record.price <= 65_535 && plate_fits
 }
 
-fn fields_fit_document_01(record: &Record) -> bool {
-    let fit = if record.is_taxon() {
-        record.price <= 65_535 && record.plate >= 1
-    } else {
-        record.price == 0 && record.plate == 0
-    };
-    record.length <= 1_000_000 && fit
-}
-
-fn bad_link(records: &[Record]) -> Option<Refusal> {
+pub(crate) fn bad_link(records: &[Record]) -> Option<Refusal> {
     at_lowest(6, records, |records, number| {
         let record = records[number - 1];
         let wrong = |link: u16| {
@@ -145,21 +134,21 @@ fn times_named(records: &[Record], number: usize) -> usize {
         .count()
 }
 
-fn too_many_taxa(records: &[Record]) -> Option<Refusal> {
+pub(crate) fn too_many_taxa(records: &[Record]) -> Option<Refusal> {
     without_place(7, outline::taxa(records).len() > 64)
 }
 
-fn duplicate_plate(records: &[Record]) -> Option<Refusal> {
+pub(crate) fn duplicate_plate(plate: fn(&Record) -> u32, records: &[Record]) -> Option<Refusal> {
     at_lowest(8, records, |records, number| {
         let record = records[number - 1];
         record.is_taxon()
             && records[..number - 1]
                 .iter()
-                .any(|earlier| earlier.is_taxon() && earlier.plate == record.plate)
+                .any(|earlier| earlier.is_taxon() && plate(earlier) == plate(&record))
     })
 }
 
-fn buffer_too_short(call: &Call, records: usize) -> Option<Refusal> {
+pub(crate) fn buffer_too_short(call: &Call, records: usize) -> Option<Refusal> {
     let [marks, curve, work] = needed(records, call.count);
     without_place(
         9,
@@ -171,14 +160,17 @@ fn buffer_too_short(call: &Call, records: usize) -> Option<Refusal> {
 mod tests {
     use super::*;
     use crate::cases::{limits, tree_a};
-    use crate::damage;
     use crate::heading_cases;
-    use crate::headings::has_any;
-    use crate::outline::bytes;
-    use crate::random::Random;
+    use crate::lock_cases;
+    use crate::outline::{bytes, LOCK};
+    use crate::table;
 
     fn refusal(number: u32, place: u32) -> Option<Refusal> {
         Some(Refusal { number, place })
+    }
+
+    fn refused(call: &Call) -> Option<Refusal> {
+        choose(call, |records| table::solve(records, call.way, call.count)).err()
     }
 
     /// Tree A, way 0, page count 5, buffers as long as needed.
@@ -201,7 +193,10 @@ mod tests {
 
     #[test]
     fn gives_what_is_stated_at_the_limits() {
-        for limit in limits().into_iter().chain(heading_cases::limits()) {
+        let ours = heading_cases::limits()
+            .into_iter()
+            .chain(lock_cases::limits());
+        for limit in limits().into_iter().chain(ours) {
             let [marks, curve, work] = needed(limit.outline.len() / RECORD_BYTES, limit.count);
             let call = Call {
                 outline: limit.outline,
@@ -215,30 +210,34 @@ mod tests {
                 number: limit.number,
                 place: limit.place,
             };
-            assert_eq!(choose(&call), (limit.number != 0).then_some(stated));
+            assert_eq!(refused(&call), (limit.number != 0).then_some(stated));
         }
     }
 
     #[test]
     fn the_first_row_that_holds_is_given() {
         let mut faulty = call();
-        assert_eq!(choose(&faulty), None);
+        assert_eq!(refused(&faulty), None);
+        for lock in [47, 63, 79] {
+            faulty.outline[lock] |= 128;
+        }
+        assert_eq!(refused(&faulty), refusal(12, 0));
         faulty.work = 167;
-        assert_eq!(choose(&faulty), refusal(9, 0));
+        assert_eq!(refused(&faulty), refusal(9, 0));
         faulty.outline[44] = 12;
-        assert_eq!(choose(&faulty), refusal(8, 4));
+        assert_eq!(refused(&faulty), refusal(8, 4));
         faulty.outline[0] = 2;
-        assert_eq!(choose(&faulty), refusal(6, 1));
+        assert_eq!(refused(&faulty), refusal(6, 1));
         faulty.outline[26] = 1;
-        assert_eq!(choose(&faulty), refusal(5, 2));
+        assert_eq!(refused(&faulty), refusal(5, 2));
         faulty.count = 4_097;
-        assert_eq!(choose(&faulty), refusal(4, 0));
+        assert_eq!(refused(&faulty), refusal(4, 0));
         faulty.outline.resize(128 * RECORD_BYTES, 0);
-        assert_eq!(choose(&faulty), refusal(3, 0));
+        assert_eq!(refused(&faulty), refusal(3, 0));
         faulty.outline.push(0);
-        assert_eq!(choose(&faulty), refusal(2, 0));
+        assert_eq!(refused(&faulty), refusal(2, 0));
         faulty.way = 2;
-        assert_eq!(choose(&faulty), refusal(1, 0));
+        assert_eq!(refused(&faulty), refusal(1, 0));
     }
 
     #[test]
@@ -250,7 +249,7 @@ mod tests {
                 work,
                 ..call()
             };
-            assert_eq!(choose(&short), refusal(9, 0));
+            assert_eq!(refused(&short), refusal(9, 0));
         }
     }
 
@@ -260,6 +259,9 @@ mod tests {
         assert_eq!(checked(|r| r[2].price = 65_536), refusal(5, 3));
         assert_eq!(checked(|r| r[3].plate = 0), refusal(5, 4));
         assert_eq!(checked(|r| r[3].plate = u32::MAX), None);
+        assert_eq!(checked(|r| r[3].plate = LOCK), refusal(5, 4));
+        assert_eq!(checked(|r| r[3].plate = LOCK + 1), None);
+        assert_eq!(checked(|r| r[1].plate = LOCK), refusal(5, 2));
         assert_eq!(checked(|r| r[1].price = 1), None);
         assert_eq!(checked(|r| r[1].price = 65_535), None);
         assert_eq!(checked(|r| r[1].price = 65_536), refusal(5, 2));
@@ -269,21 +271,15 @@ mod tests {
     }
 
     #[test]
-    fn document_01_refuses_headings_and_else_the_same() {
-        let mut priced = call();
-        priced.outline[24] = 1;
-        assert_eq!(choose(&priced), None);
-        assert_eq!(choose_by_document_01(&priced), refusal(5, 2));
-        let rng = &mut Random::new(1);
-        let mut without = 0;
-        for _ in 0..5_000 {
-            let call = damage::damaged_call(rng);
-            if !has_any(&outline::records(&call.outline)) {
-                assert_eq!(choose_by_document_01(&call), choose(&call), "{call:?}");
-                without += 1;
-            }
+    fn taxa_alike_in_the_lower_31_bits_are_twins() {
+        for locks in 0..4 {
+            let twins = |records: &mut [Record]| {
+                records[2].plate = 11 | (locks & 1) << 31;
+                records[4].plate = 11 | (locks >> 1) << 31;
+            };
+            assert_eq!(checked(twins), refusal(8, 5));
         }
-        assert!(without > 1_000);
+        assert_eq!(checked(|r| r[4].plate = LOCK + 14), None);
     }
 
     #[test]
@@ -303,5 +299,13 @@ mod tests {
         let found = [11, 12, 13, 0, 14].map(|plate| find(&outline, plate));
         assert_eq!(found, [3, 4, 5, 0, 0]);
         assert_eq!(find(&outline[..79], 11), 0);
+    }
+
+    #[test]
+    fn stated_finds_are_given() {
+        for stated in lock_cases::finds() {
+            let found = find(&stated.outline, stated.plate);
+            assert_eq!(found, stated.record, "{}", stated.plate);
+        }
     }
 }

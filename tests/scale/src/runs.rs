@@ -1,24 +1,24 @@
 //! The runs of the comparison, each of which prints a line with its counts.
 
 use crate::call::Call;
-use crate::cases;
 use crate::compare;
 use crate::damage::{self, Outcomes};
-use crate::exhaustive::{self, Solution};
+use crate::earlier;
 use crate::expect::{self, Expected};
-use crate::heading_cases;
-use crate::headings::{self, Tally};
+use crate::headings;
 use crate::library;
-use crate::outline::{self, Record, ROOTED, UNROOTED};
+use crate::locks;
+use crate::outline::{self, Record, LOCK, ROOTED, UNROOTED};
 use crate::random::Random;
 use crate::report::{shell_line, Report, Stop};
 use crate::rules::{self, Refusal};
 use crate::shapes;
+use crate::tally::Tally;
 
 pub const DEFAULT_SEED: u64 = 1;
 pub const DEFAULT_OUTLINES: u64 = 50_000;
 
-const WAYS: [u32; 2] = [ROOTED, UNROOTED];
+pub(crate) const WAYS: [u32; 2] = [ROOTED, UNROOTED];
 
 /// Makes calls, compares them and keeps count.
 pub struct Runner {
@@ -47,7 +47,8 @@ impl Runner {
         self.sound_texts(outlines)?;
         self.faulty_texts(2 * outlines)?;
         self.stated_texts()?;
-        self.heading_cases()
+        self.heading_cases()?;
+        self.lock_cases()
     }
 
     /// Starts a run with numbers that do not depend on the runs before it.
@@ -55,7 +56,7 @@ impl Runner {
         self.rng = Random::new(self.seed ^ u64::from(run) << 32);
     }
 
-    fn choose(&mut self, call: &Call, expected: &Expected) -> Result<(), Stop> {
+    pub(crate) fn choose(&mut self, call: &Call, expected: &Expected) -> Result<(), Stop> {
         let observed = library::guarded_choose(call, &mut self.rng);
         let comparison = compare::choose(expected, &observed);
         let columns = expected.curve.len() / 2;
@@ -72,91 +73,49 @@ impl Runner {
         })
     }
 
-    fn check(&mut self, outline: &[u8]) -> Result<(), Stop> {
+    /// An outline without locks, or without headings too, is to give what it gave.
+    fn choose_by_earlier_rules(&mut self, call: &Call) -> Result<(), Stop> {
+        for &earlier in earlier::still_hold(&outline::records(&call.outline)) {
+            self.choose(call, &expect::by_earlier_rules(earlier, call))?;
+        }
+        Ok(())
+    }
+
+    pub(crate) fn check(&mut self, outline: &[u8]) -> Result<(), Stop> {
+        self.stated_check(outline, rules::check(outline))?;
+        for earlier in earlier::still_hold(&outline::records(outline)) {
+            self.stated_check(outline, earlier.check(outline))?;
+        }
+        Ok(())
+    }
+
+    fn stated_check(&mut self, outline: &[u8], stated: Option<Refusal>) -> Result<(), Stop> {
         let observed = library::guarded_check(outline, &mut self.rng);
-        let comparison = compare::check(rules::check(outline), &observed);
+        let comparison = compare::check(stated, &observed);
         self.report.add(&comparison, 0, || {
             format!("check\n  {}", shell_line(0, 0, outline))
         })
     }
 
     fn find(&mut self, outline: &[u8], plate: u32) -> Result<(), Stop> {
+        self.stated_find(outline, plate, rules::find(outline, plate))?;
+        for earlier in earlier::still_hold(&outline::records(outline)) {
+            self.stated_find(outline, plate, earlier.find(outline, plate))?;
+        }
+        Ok(())
+    }
+
+    pub(crate) fn stated_find(
+        &mut self,
+        outline: &[u8],
+        plate: u32,
+        stated: u32,
+    ) -> Result<(), Stop> {
         let observed = library::guarded_find(outline, plate, &mut self.rng);
-        let comparison = compare::find(rules::find(outline, plate), &observed);
+        let comparison = compare::find(stated, &observed);
         self.report.add(&comparison, 0, || {
             format!("find plate {plate}\n  {}", shell_line(0, 0, outline))
         })
-    }
-
-    fn case_g(&mut self) -> Result<(), Stop> {
-        self.start('a');
-        for way in WAYS {
-            let case = cases::case_g(way);
-            self.stated(&case, cases::curve_of_g(way))?;
-        }
-        self.report.line("a. case G");
-        Ok(())
-    }
-
-    /// A case's answer and marks are as they are stated.
-    fn stated(&mut self, case: &cases::Case, columns: Vec<[u32; 2]>) -> Result<(), Stop> {
-        let outline = outline::bytes(&case.records);
-        let call = Call::roomy(outline, case.count, case.way, &mut self.rng);
-        let marks = case.marks();
-        let mut expected = Expected::selection(Solution { columns, marks });
-        let taxa = case.chosen.len() as u32;
-        expected.answer = [0, 0, case.diversity, case.cost, taxa, case.spare];
-        self.choose(&call, &expected)
-    }
-
-    fn cases(&mut self) -> Result<(), Stop> {
-        self.start('b');
-        self.stated_cases(&cases::starred())?;
-        self.stated_limits(&cases::limits())?;
-        self.report.line("b. cases A1 to F");
-        Ok(())
-    }
-
-    fn heading_cases(&mut self) -> Result<(), Stop> {
-        self.start('j');
-        self.stated_cases(&heading_cases::all())?;
-        self.stated_limits(&heading_cases::limits())?;
-        self.report
-            .line("j. our cases with headings, worked by hand");
-        Ok(())
-    }
-
-    fn stated_cases(&mut self, cases: &[cases::Case]) -> Result<(), Stop> {
-        for case in cases {
-            let order = exhaustive::subsets(outline::taxa(&case.records).len());
-            let found = exhaustive::search(&case.records, case.way, case.count, &order);
-            self.stated(case, found.columns)?;
-        }
-        Ok(())
-    }
-
-    fn stated_limits(&mut self, limits: &[cases::Limit]) -> Result<(), Stop> {
-        for limit in limits {
-            for way in WAYS {
-                self.limit(limit, way)?;
-            }
-        }
-        Ok(())
-    }
-
-    fn limit(&mut self, limit: &cases::Limit, way: u32) -> Result<(), Stop> {
-        let outline = limit.outline.clone();
-        let call = Call::roomy(outline, limit.count, way, &mut self.rng);
-        let refusal = Refusal {
-            number: limit.number,
-            place: limit.place,
-        };
-        if limit.number == 0 {
-            self.choose(&call, &expect::by_table(&call))?;
-        } else {
-            self.choose(&call, &Expected::refused(refusal))?;
-        }
-        self.check(&limit.outline)
     }
 
     fn small(&mut self, outlines: u64) -> Result<(), Stop> {
@@ -170,19 +129,20 @@ impl Runner {
             self.check(&outline::bytes(&records))?;
             for way in WAYS {
                 let expected = self.against_search(&records, count, way)?;
-                tally.add_set(&records, &expected);
+                tally.add_call(&records, &expected);
             }
         }
         self.report.line(&format!(
-            "c. {outlines} small outlines ({interleaved} interleaved) against the exhaustive search, and by document 01 alone without headings"
+            "c. {outlines} small outlines ({interleaved} interleaved) against the exhaustive search, without locks also by the \
+             rules before them, and with neither locks nor headings by document 01 alone"
         ));
         self.report
             .require("an interleaved outline", interleaved, outlines / 3);
-        self.report.headings("small outlines", tally);
+        self.report.tally("small outlines", &tally);
         Ok(())
     }
 
-    /// Outlines without headings are to give what they gave by document 01. At times a buffer is made short.
+    /// At times a buffer is made short.
     fn against_search(
         &mut self,
         records: &[Record],
@@ -192,9 +152,7 @@ impl Runner {
         let mut call = Call::roomy(outline::bytes(records), count, way, &mut self.rng);
         let expected = expect::by_exhaustive_search(&call, &mut self.rng);
         self.choose(&call, &expected)?;
-        if !headings::has_any(records) {
-            self.choose(&call, &expect::by_document_01(&call))?;
-        }
+        self.choose_by_earlier_rules(&call)?;
         if self.rng.one_in(8) {
             call.shorten(&mut self.rng);
             let refused = expect::by_exhaustive_search(&call, &mut self.rng);
@@ -211,6 +169,9 @@ impl Runner {
             let expected = expect::by_size(&call, &mut self.rng);
             outcomes.add(&outline::records(&call.outline), &expected);
             self.choose(&call, &expected)?;
+            if expect::is_small(&call) {
+                self.choose_by_earlier_rules(&call)?;
+            }
             self.check(&call.outline)?;
             let plate = some_plate(&call.outline, &mut self.rng);
             self.find(&call.outline, plate)?;
@@ -220,32 +181,49 @@ impl Runner {
         for (refusal, times) in outcomes.refusals() {
             self.report.require(&refusal, times, calls / 200);
         }
-        self.report.headings("damaged calls", outcomes.tally);
+        self.report.tally("damaged calls", &outcomes.tally);
         Ok(())
     }
 
     fn finder(&mut self, outlines: u64) -> Result<(), Stop> {
         self.start('e');
-        let mut accepted = 0;
+        let (mut accepted, mut taxa, mut locked) = (0, 0, 0);
         for _ in 0..outlines {
             let outline = if self.rng.one_in(2) {
                 outline::bytes(&small_outline(&mut self.rng).0)
             } else {
-                damage::damaged_outline(&mut self.rng)
+                damage::damaged_outline(40, &mut self.rng).0
             };
-            accepted += u64::from(rules::check(&outline).is_none());
-            // More records than this are refused, whatever the plate.
-            for record in outline::records(&outline).iter().take(130) {
-                self.find(&outline, record.plate)?;
+            if rules::check(&outline).is_none() {
+                let records = outline::records(&outline);
+                accepted += 1;
+                taxa += outline::taxa(&records).len() as u64;
+                locked += records.iter().filter(|record| record.is_locked()).count() as u64;
             }
-            let near = some_plate(&outline, &mut self.rng);
-            for plate in [0, 1, u32::MAX, near ^ 1, near << 8, near >> 8] {
-                self.find(&outline, plate)?;
-            }
+            self.find_all(&outline)?;
         }
         self.report.line(&format!(
-            "e. every plate of {outlines} outlines ({accepted} accepted)"
+            "e. every plate, with bit 31 and without, of {outlines} outlines ({accepted} accepted, {locked} of {taxa} taxa locked)"
         ));
+        self.report
+            .require("a locked taxon to find", locked, outlines / 2);
+        self.report
+            .require("another taxon to find", taxa - locked, outlines / 2);
+        Ok(())
+    }
+
+    fn find_all(&mut self, outline: &[u8]) -> Result<(), Stop> {
+        let records = outline::records(outline);
+        // More than 127 are refused, whatever the plate, so a few plates do where there are far more.
+        let asked = if records.len() > 200 { 10 } else { 200 };
+        for record in records.iter().take(asked) {
+            self.find(outline, record.plate)?;
+            self.find(outline, record.plate ^ LOCK)?;
+        }
+        let near = some_plate(outline, &mut self.rng);
+        for plate in [0, 1, LOCK, u32::MAX, near ^ 1, near << 8, near >> 8] {
+            self.find(outline, plate)?;
+        }
         Ok(())
     }
 
@@ -257,14 +235,14 @@ impl Runner {
             self.against_table(&records, count, &mut larger_tally)?;
         }
         for turn in 0..full {
-            let records = full_outline(turn, &mut self.rng);
-            self.against_table(&records, 4_096, &mut full_tally)?;
+            let (records, count) = full_outline(turn, &mut self.rng);
+            self.against_table(&records, count, &mut full_tally)?;
         }
         self.report.line(&format!(
-            "f. {outlines} larger outlines and {full} of 64 taxa with page count 4096 against the table"
+            "f. {outlines} larger outlines and {full} of 64 taxa, those without locks with page count 4096, against the table"
         ));
-        self.report.headings("larger outlines", larger_tally);
-        self.report.headings("outlines of 64 taxa", full_tally);
+        self.report.tally("larger outlines", &larger_tally);
+        self.report.tally("outlines of 64 taxa", &full_tally);
         Ok(())
     }
 
@@ -279,7 +257,7 @@ impl Runner {
         for way in WAYS {
             let call = Call::roomy(outline.clone(), count, way, &mut self.rng);
             let expected = expect::by_table(&call);
-            tally.add_set(records, &expected);
+            tally.add_call(records, &expected);
             self.choose(&call, &expected)?;
         }
         Ok(())
@@ -298,21 +276,22 @@ fn small_outline(rng: &mut Random) -> (Vec<Record>, u32) {
     };
     shapes::fill_randomly(&mut records, count, rng);
     headings::fill_at_times(&mut records, count, rng);
+    let count = locks::fill_at_times(&mut records, count, count.max(70), rng);
     (records, count)
 }
 
-/// The plate of a random record, or 0 if there is none.
+/// The plate of a random record, at times with bit 31, or 0 if there is none.
 fn some_plate(outline: &[u8], rng: &mut Random) -> u32 {
     let records = outline::records(outline);
     if records.is_empty() {
         0
     } else {
-        rng.pick(&records).plate
+        rng.pick(&records).plate_number() | rng.pick(&[0, 0, 0, LOCK])
     }
 }
 
-/// 64 taxa, the shape and the kind of filling by turns.
-fn full_outline(turn: u64, rng: &mut Random) -> Vec<Record> {
+/// 64 taxa and a page count; the shape and the kind of filling by turns.
+fn full_outline(turn: u64, rng: &mut Random) -> (Vec<Record>, u32) {
     let mut records = match turn % 6 {
         0 => shapes::balanced(6),
         1 => shapes::caterpillar_taxon_first(64),
@@ -335,7 +314,12 @@ fn full_outline(turn: u64, rng: &mut Random) -> Vec<Record> {
         0..3 => headings::fill_randomly(&mut records, 4_096, rng),
         _ => {}
     }
-    records
+    // Four of seven, likewise.
+    let count = match turn % 7 {
+        0 | 2 | 4 | 6 => locks::fill_randomly(&mut records, 4_096, 4_096, rng),
+        _ => 4_096,
+    };
+    (records, count)
 }
 
 fn larger_outline(rng: &mut Random) -> (Vec<Record>, u32) {
@@ -344,6 +328,7 @@ fn larger_outline(rng: &mut Random) -> (Vec<Record>, u32) {
     let count = rng.up_to(most);
     shapes::fill_randomly(&mut records, count, rng);
     headings::fill_at_times(&mut records, count, rng);
+    let count = locks::fill_at_times(&mut records, count, most, rng);
     (records, count)
 }
 
@@ -364,22 +349,25 @@ mod tests {
     use super::*;
 
     #[test]
-    fn full_outlines_of_every_shape_and_kind_have_headings_in_some_turns_only() {
+    fn full_outlines_of_every_shape_and_kind_have_headings_and_locks_in_some_turns_only() {
         let rng = &mut Random::new(1);
         let mut tallies = [Tally::default(); 24];
-        for turn in 0..120 {
-            let records = full_outline(turn, rng);
+        for turn in 0..840 {
+            let (records, count) = full_outline(turn, rng);
             assert_eq!(outline::taxa(&records).len(), 64);
             assert_eq!(rules::check(&outline::bytes(&records)), None);
+            assert!(count == 4_096 || locks::has_any(&records) && count < 4_096);
             tallies[turn as usize % 24].add(&records);
         }
-        for tally in tallies {
-            assert_eq!((tally.with, tally.without), (3, 2));
+        for Tally { headings, locks } in tallies {
+            assert_eq!((headings.with, headings.without), (21, 14));
+            assert_eq!((locks.with, locks.without), (20, 15));
+            assert_eq!(locks.neither, 6);
         }
     }
 
     #[test]
-    fn other_outlines_have_headings_at_times() {
+    fn other_outlines_have_headings_and_locks_at_times() {
         let rng = &mut Random::new(2);
         for random in [small_outline, larger_outline] {
             let mut tally = Tally::default();
@@ -388,7 +376,10 @@ mod tests {
                 assert_eq!(rules::check(&outline::bytes(&records)), None);
                 tally.add(&records);
             }
-            assert!(tally.with > 500 && tally.without > 250, "{tally:?}");
+            let Tally { headings, locks } = tally;
+            assert!(headings.with > 500 && headings.without > 250, "{tally:?}");
+            assert!(locks.with > 500 && locks.without > 250, "{tally:?}");
+            assert!(locks.all > 50 && locks.neither > 50, "{tally:?}");
         }
     }
 }

@@ -1,11 +1,11 @@
 //! Outlines of given and of random shapes, and the lengths, prices and plates to fill them with.
 //!
-//! A shape has lengths and prices 0 and its taxa's plates are 1, 2, 3 and so on; `fill` sets lengths and the taxa's
-//! prices, `headings::fill` the groups'.
+//! A shape has lengths and prices 0, no locks, and its taxa's plates are 1, 2, 3 and so on; `fill` sets lengths and the taxa's
+//! prices, `headings::fill` the groups', and `locks` locks taxa.
 
 use std::collections::BTreeSet;
 
-use crate::outline::Record;
+use crate::outline::{Record, MOST_PLATE};
 use crate::random::Random;
 
 /// A tree before its nodes have record numbers; a node without members is a taxon.
@@ -259,9 +259,9 @@ fn random_plates(taxa: usize, rng: &mut Random) -> Vec<u32> {
         let earlier = plates.len() as u32;
         plates.insert(match kind {
             0 => earlier + 1,
-            1 => u32::MAX - earlier,
+            1 => MOST_PLATE - earlier,
             2 => (earlier + 1) << 16,
-            3 => 1 + rng.up_to(u32::MAX - 1),
+            3 => 1 + rng.up_to(MOST_PLATE - 1),
             _ => 1 + rng.up_to(999),
         });
     }
@@ -349,7 +349,7 @@ mod tests {
         }
         assert_eq!(
             (longest, dearest, last_plate),
-            (1_000_000, 65_535, u32::MAX)
+            (1_000_000, 65_535, 2_147_483_647)
         );
         assert!(free > 100);
     }

@@ -1,10 +1,11 @@
 //! The table of Pardi and Goldman over the costs that occur: each group's members are joined one by one over all pairs of their
-//! costs, O(N B^2) at worst. A group's price moves all its costs (document 02, §2).
+//! costs, O(N B^2) at worst. A group's price moves all its costs (document 02, §2), and a clade with a locked taxon inside is
+//! never left empty (§4).
 
 use std::iter::repeat_n;
 use std::mem::take;
 
-use crate::exhaustive::Solution;
+use crate::exhaustive::{Solution, NOTHING};
 use crate::outline::{self, Record, ROOTED, UNROOTED};
 
 /// The best set of a column; `set` has bit 63 - k for the k-th taxon in record order, so the greater number wins a tie.
@@ -13,6 +14,21 @@ pub struct Best {
     pub diversity: u32,
     pub cost: u32,
     pub set: u64,
+}
+
+impl Best {
+    const EMPTY_SET: Best = Best {
+        diversity: 0,
+        cost: 0,
+        set: 0,
+    };
+
+    /// Of a column that no set fits.
+    const NOTHING: Best = Best {
+        diversity: NOTHING[0],
+        cost: NOTHING[1],
+        set: 0,
+    };
 }
 
 /// For each exact cost the best nonempty set: its diversity above the 64 bits of the set, or 0 where there is none.
@@ -29,13 +45,17 @@ struct Clade {
     rooted: Row,
     /// With nothing chosen elsewhere: only branches between chosen taxa count. Kept in the unrooted way.
     unrooted: Row,
+    /// Whether a locked taxon is inside: then no set may leave the clade empty, and each of its rows has only sets that hold all
+    /// its locked taxa.
+    locked: bool,
 }
 
 impl Clade {
     /// A taxon before its price and its branch.
-    fn taxon(bit: u64, way: u32) -> Clade {
+    fn taxon(bit: u64, locked: bool, way: u32) -> Clade {
         let alone = vec![u128::from(bit)];
         Clade {
+            locked,
             unrooted: if way == UNROOTED {
                 alone.clone()
             } else {
@@ -47,12 +67,12 @@ impl Clade {
 
     fn join(&mut self, member: &Clade, way: u32, count: usize) {
         let pairs = pairs(&self.rooted, &member.rooted, count);
-        keep_better(&mut self.rooted, &member.rooted);
-        keep_better(&mut self.rooted, &pairs);
+        let leave_out = [!self.locked, !member.locked];
+        join_rows(&mut self.rooted, &member.rooted, &pairs, leave_out);
         if way == UNROOTED {
-            keep_better(&mut self.unrooted, &member.unrooted);
-            keep_better(&mut self.unrooted, &pairs);
+            join_rows(&mut self.unrooted, &member.unrooted, &pairs, leave_out);
         }
+        self.locked |= member.locked;
     }
 
     /// Adds the branch of the clade's own record.
@@ -76,6 +96,19 @@ fn move_right(row: &mut Row, price: usize, count: usize) {
     if !row.is_empty() {
         row.splice(..0, repeat_n(0, price));
     }
+}
+
+/// The best of the member's sets alone, of the others' alone, and of `pairs` of both. `leave_out` says whether the others may be
+/// left empty, then whether the member may.
+fn join_rows(others: &mut Row, member: &Row, pairs: &Row, leave_out: [bool; 2]) {
+    let [leave_out_others, leave_out_member] = leave_out;
+    if !leave_out_member {
+        others.clear();
+    }
+    if leave_out_others {
+        keep_better(others, member);
+    }
+    keep_better(others, pairs);
 }
 
 /// The best unions of a set from each row.
@@ -120,7 +153,7 @@ pub fn optima(records: &[Record], way: u32, count: usize) -> Vec<Best> {
         let record = &records[position];
         let mut clade = Clade::default();
         if record.is_taxon() {
-            clade = Clade::taxon(bit, way);
+            clade = Clade::taxon(bit, record.is_locked(), way);
             bit = bit.rotate_left(1);
         }
         for member in outline::members(records, position) {
@@ -131,28 +164,29 @@ pub fn optima(records: &[Record], way: u32, count: usize) -> Vec<Best> {
         clades[position] = clade;
     }
     let root = take(&mut clades[0]);
-    by_count(
-        if way == ROOTED {
-            &root.rooted
-        } else {
-            &root.unrooted
-        },
-        count,
-    )
+    let before = if root.locked {
+        Best::NOTHING
+    } else {
+        Best::EMPTY_SET
+    };
+    let row = if way == ROOTED {
+        &root.rooted
+    } else {
+        &root.unrooted
+    };
+    by_count(row, before, count)
 }
 
-/// From exact costs to page counts: a dearer set needs more diversity to be better.
-fn by_count(row: &Row, count: usize) -> Vec<Best> {
-    let mut best = Best {
-        diversity: 0,
-        cost: 0,
-        set: 0,
-    };
+/// From exact costs to page counts: a dearer set needs more diversity to be better. `best` is what there is before any set of the
+/// row.
+fn by_count(row: &Row, mut best: Best, count: usize) -> Vec<Best> {
     let mut columns = Vec::with_capacity(count + 1);
     for cost in 0..=count {
         let cell = row.get(cost).copied().unwrap_or(0);
         let diversity = (cell >> DIVERSITY_SHIFT) as u32;
-        if diversity > best.diversity || cost == 0 {
+        // At cost 0 the nonempty set wins the tie with the empty one.
+        let first = cost == 0 || best == Best::NOTHING;
+        if cell != 0 && (first || diversity > best.diversity) {
             best = Best {
                 diversity,
                 cost: cost as u32,
@@ -164,58 +198,112 @@ fn by_count(row: &Row, count: usize) -> Vec<Best> {
     columns
 }
 
-/// The same as curve and marks.
-pub fn solve(records: &[Record], way: u32, count: u32) -> Solution {
+/// The same as curve and marks; nothing where no set fits `count`.
+pub fn solve(records: &[Record], way: u32, count: u32) -> Option<Solution> {
     let best = optima(records, way, count as usize);
-    let chosen = best[count as usize].set;
+    let last = best[count as usize];
+    if last == Best::NOTHING {
+        return None;
+    }
     let mut marks = vec![0; records.len()];
     for (k, position) in outline::taxa(records).into_iter().enumerate() {
-        marks[position] = (chosen >> (63 - k) & 1) as u8;
+        marks[position] = (last.set >> (63 - k) & 1) as u8;
     }
-    Solution {
+    Some(Solution {
         columns: best.iter().map(|b| [b.diversity, b.cost]).collect(),
         marks,
-    }
+    })
 }
 
 #[cfg(test)]
 mod tests {
     use super::*;
     use crate::cases;
+    use crate::earlier;
     use crate::exhaustive::{search, subsets};
     use crate::heading_cases;
-    use crate::headings::{self, Tally};
+    use crate::headings;
+    use crate::lock_cases::{self, CurveCase};
+    use crate::locks;
     use crate::random::Random;
     use crate::shapes;
+    use crate::tally::Tally;
 
     #[test]
-    fn agrees_with_the_exhaustive_search() {
+    fn agrees_with_the_exhaustive_search_of_today_and_without_locks_of_earlier() {
         let rng = &mut Random::new(1);
         let mut tally = Tally::default();
+        let mut none = 0;
         for _ in 0..3_000 {
             let taxa = 1 + rng.index(8);
             let mut records = shapes::random_outline(taxa, 30, rng);
             let count = rng.up_to(25);
             shapes::fill_randomly(&mut records, count, rng);
             headings::fill_at_times(&mut records, count, rng);
+            let count = locks::fill_at_times(&mut records, count, 35, rng);
             tally.add(&records);
             let order = subsets(taxa);
             for way in [ROOTED, UNROOTED] {
                 let expected = search(&records, way, count, &order);
                 assert_eq!(solve(&records, way, count), expected, "{records:?}");
+                none += u32::from(expected.is_none());
+                for rules in earlier::still_hold(&records) {
+                    assert_eq!(Some(rules.search(&records, way, count)), expected);
+                }
             }
         }
-        assert!(tally.with > 1_500 && tally.without > 750, "{tally:?}");
+        let Tally { headings, locks } = tally;
+        assert!(headings.with > 1_500 && headings.without > 750, "{tally:?}");
+        assert!(locks.with > 1_500 && locks.without > 750, "{tally:?}");
+        assert!(locks.all > 300 && none > 600, "{tally:?}, {none}");
     }
 
     #[test]
     fn gives_the_cases_with_headings() {
         for case in heading_cases::all() {
-            let solution = solve(&case.records, case.way, case.count);
+            let solution = solve(&case.records, case.way, case.count).unwrap();
             let last = *solution.columns.last().unwrap();
             assert_eq!(last, [case.diversity, case.cost], "{}", case.name);
             assert_eq!(solution.marks, case.marks(), "{}", case.name);
         }
+    }
+
+    #[test]
+    fn gives_the_cases_with_locks() {
+        for CurveCase { case, columns } in lock_cases::all() {
+            let solution = solve(&case.records, case.way, case.count).unwrap();
+            assert_eq!(solution.columns, columns, "{}", case.name);
+            assert_eq!(solution.marks, case.marks(), "{}", case.name);
+        }
+    }
+
+    #[test]
+    fn what_is_locked_is_not_left_out_of_a_join() {
+        let member = vec![0, 0, 8];
+        let pairs = vec![0, 0, 0, 12];
+        for (leave_out, joined) in [
+            ([true, true], vec![4, 0, 8, 12]),
+            ([true, false], vec![0, 0, 8, 12]),
+            ([false, true], vec![4, 0, 0, 12]),
+            ([false, false], vec![0, 0, 0, 12]),
+        ] {
+            let mut row = vec![4];
+            join_rows(&mut row, &member, &pairs, leave_out);
+            assert_eq!(row, joined, "{leave_out:?}");
+        }
+    }
+
+    #[test]
+    fn columns_without_a_set_come_before_the_cheapest_one() {
+        let row = vec![0, 1, 2, 1 << DIVERSITY_SHIFT | 3];
+        let columns = |before| -> Vec<[u32; 2]> {
+            let best = by_count(&row, before, 4).into_iter();
+            best.map(|best| [best.diversity, best.cost]).collect()
+        };
+        let empty = [[0, 0], [0, 0], [0, 0], [1, 3], [1, 3]];
+        assert_eq!(columns(Best::EMPTY_SET), empty);
+        let nothing = [NOTHING, [0, 1], [0, 1], [1, 3], [1, 3]];
+        assert_eq!(columns(Best::NOTHING), nothing);
     }
 
     #[test]
@@ -238,7 +326,7 @@ mod tests {
     fn gives_case_g() {
         for way in [ROOTED, UNROOTED] {
             let case = cases::case_g(way);
-            let solution = solve(&case.records, way, case.count);
+            let solution = solve(&case.records, way, case.count).unwrap();
             assert_eq!(solution.columns, cases::curve_of_g(way));
             assert_eq!(solution.marks, case.marks());
         }

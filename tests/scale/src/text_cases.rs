@@ -1,5 +1,6 @@
 //! Texts whose answers document 02, §1, settles: at its limits, in its order of refusals, and as deep or long as texts can be.
 
+use crate::outline::LOCK;
 use crate::reading::ReadCall;
 
 /// A call and the answer stated for it: number, place, records.
@@ -68,6 +69,7 @@ fn spread(text: &str, len: usize) -> String {
 pub fn all() -> Vec<TextCase> {
     let mut all = sizes();
     all.extend(numbers());
+    all.extend(pairs());
     all.extend((0..=255).flat_map(every_byte));
     all.extend(order());
     all.extend(longest());
@@ -105,7 +107,7 @@ fn sizes() -> Vec<TextCase> {
     ]
 }
 
-/// Digits, ranges, and how plates go with pairs.
+/// Digits and ranges.
 fn numbers() -> Vec<TextCase> {
     let one = |name, text, plate, price, answer| case(name, text, vec![plate, price], 16, answer);
     vec![
@@ -119,8 +121,16 @@ fn numbers() -> Vec<TextCase> {
         one("length of 10 digits", "7:0000000000;", 7, 1, [10, 0, 0]),
         one("highest price", "7;", 7, 65_535, [0, 0, 1]),
         one("higher price", "7;", 7, 65_536, [5, 1, 0]),
+    ]
+}
+
+/// How plates go with pairs: by number alone, so that bit 31, which locks a taxon in an outline, makes another number.
+fn pairs() -> Vec<TextCase> {
+    let one = |name, text, plate, price, answer| case(name, text, vec![plate, price], 16, answer);
+    vec![
         one("plate 0 with a pair", "0;", 0, 1, [5, 1, 0]),
         one("plate 0 without", "0;", 7, 1, [11, 0, 0]),
+        one("bit 31 in a pair", "7;", LOCK + 7, 1, [11, 0, 0]),
         seven("twins with one pair", "(7,7);", [8, 3, 0]),
         case("two pairs", "(7,7);", vec![7, 1, 7, 1], 48, [11, 0, 0]),
         case("no pair", "7;", vec![], 16, [11, 0, 0]),
@@ -131,6 +141,13 @@ fn numbers() -> Vec<TextCase> {
             "a plate that no text has",
             "7;",
             vec![7, 1, 1_000_000_000, 1],
+            16,
+            [11, 0, 0],
+        ),
+        case(
+            "bit 31 in another pair",
+            "7;",
+            vec![7, 1, LOCK + 7, 1],
             16,
             [11, 0, 0],
         ),

@@ -36,7 +36,7 @@ fn a4_all_taxa_either_way() {
 #[test]
 fn a_whole_curve() {
     let choice = chosen(&tree_a(), 5, Way::Rooted);
-    let curve = choice.curve().iter();
+    let curve = choice.curve().iter().flatten();
     let curve: Vec<_> = curve.map(|c| (c.count, c.diversity, c.cost)).collect();
     let expected = [
         (0, 0, 0),

@@ -1,14 +1,14 @@
 //! What holds of every choice, memory that is used again, calls at the same time, and a small
 //! stack.
 
-use crate::support::{chain, headed_a, pairs, sound, star, tree_a, WAYS};
+use crate::support::{chain, headed_a, locked_a, pairs, sound, star, tree_a, WAYS};
 use plates::{choose, choose_in, Outline, Record, Refusal, Tree, Way, Work};
 use plates::{MOST_COUNT, MOST_RECORDS};
 use std::iter::successors;
 use std::thread;
 
-/// Outlines of different sizes, larger and smaller in turn, with headings and without.
-fn outlines() -> [Outline; 6] {
+/// Outlines of different sizes, larger and smaller in turn, with headings and locks and without.
+fn outlines() -> [Outline; 8] {
     let uneven = Tree::group(
         2,
         [
@@ -24,6 +24,8 @@ fn outlines() -> [Outline; 6] {
         sound(uneven),
         sound(star(&[(4, 1); 64])),
         sound(headed_a(1, 2)),
+        sound(locked_a(0, 0, &[13])),
+        sound(locked_a(1, 2, &[11, 13])),
     ]
 }
 
@@ -59,10 +61,12 @@ fn each_column_is_the_choice_for_its_count() {
     for outline in outlines() {
         for way in WAYS {
             let whole = choose(&outline, 20, way).unwrap();
-            for column in whole.curve() {
-                let choice = choose(&outline, column.count, way).unwrap();
-                assert_eq!(choice.diversity(), column.diversity);
-                assert_eq!(choice.cost(), column.cost);
+            assert_eq!(whole.curve().len(), 21);
+            for (count, column) in (0..).zip(whole.curve()) {
+                let choice = choose(&outline, count, way);
+                let best = choice.map(|choice| (count, choice.diversity(), choice.cost()));
+                let column = column.map(|column| (column.count, column.diversity, column.cost));
+                assert_eq!(best, column.ok_or(Refusal::LockedTooDear));
             }
         }
     }

@@ -10,7 +10,7 @@ fn chosen(tree: &Tree, count: u32, way: Way) -> Choice {
 
 /// Diversity and cost for each count from 0 on.
 fn curve(choice: &Choice) -> Vec<(u32, u32)> {
-    let columns = choice.curve().iter();
+    let columns = choice.curve().iter().flatten();
     columns.map(|c| (c.diversity, c.cost)).collect()
 }
 

@@ -1,7 +1,7 @@
 //! Outlines from bytes: their records, and finding a plate.
 
-use crate::support::{bytes, sound, star, tree_a, TREE_A};
-use plates::{Outline, Record, Refusal};
+use crate::support::{bytes, sound, star, tree_a, LOCK, TREE_A};
+use plates::{Outline, Record, Refusal, MOST_PLATE};
 
 #[test]
 fn records_have_the_fields() {
@@ -14,6 +14,7 @@ fn records_have_the_fields() {
             length,
             price,
             plate,
+            locked: false,
         }
     });
     let expected: Vec<Record> = expected.collect();
@@ -28,14 +29,17 @@ fn records_have_the_fields() {
 
 #[test]
 fn fields_have_all_their_bytes() {
-    let largest = [0, 0, 1_000_000, 65_535, u32::MAX];
-    let outline = Outline::from_bytes(&bytes(&[largest])).unwrap();
-    let record = outline.record(1).unwrap();
-    assert_eq!(
-        (record.length, record.price, record.plate),
-        (1_000_000, 65_535, u32::MAX)
-    );
-    assert_eq!(outline.find(u32::MAX), Some(record));
+    for (lock, locked) in [(0, false), (LOCK, true)] {
+        let largest = [0, 0, 1_000_000, 65_535, lock | MOST_PLATE];
+        let outline = Outline::from_bytes(&bytes(&[largest])).unwrap();
+        let record = outline.record(1).unwrap();
+        assert_eq!(
+            (record.length, record.price, record.plate),
+            (1_000_000, 65_535, 2_147_483_647)
+        );
+        assert_eq!(record.locked, locked);
+        assert_eq!(outline.find(2_147_483_647), Some(record));
+    }
 }
 
 #[test]
@@ -68,7 +72,7 @@ fn finding_gives_the_taxon_of_the_plate() {
     for (plate, number) in [(11, 3), (12, 4), (13, 5)] {
         assert_eq!(outline.find(plate), outline.record(number));
     }
-    for plate in [0, 1, 10, 14, u32::MAX] {
+    for plate in [0, 1, 10, 14, MOST_PLATE, LOCK, LOCK | 13, u32::MAX] {
         assert_eq!(outline.find(plate), None);
     }
 }
@@ -76,7 +80,7 @@ fn finding_gives_the_taxon_of_the_plate() {
 #[test]
 fn debug_shows_records() {
     let shown = format!("{:?}", tree_a());
-    assert!(
-        shown.contains("Record { number: 5, next: 0, first: 0, length: 5, price: 2, plate: 13 }")
-    );
+    assert!(shown.contains(
+        "Record { number: 5, next: 0, first: 0, length: 5, price: 2, plate: 13, locked: false }"
+    ));
 }

@@ -1,7 +1,7 @@
 //! Every refusal: through the safe interface where it can arise there, else through the C
 //! interface.
 
-use crate::support::{bytes, tree_a, Fields, TREE_A};
+use crate::support::{bytes, tree_a, Fields, LOCK, TREE_A};
 use plates::{choose, sys, Outline, Refusal, Way};
 use std::error::Error;
 
@@ -124,15 +124,16 @@ fn count_too_large() {
 
 #[test]
 fn field_out_of_range() {
-    let taxon_faults = [(2, 1_000_001), (3, 65_536), (4, 0)];
+    let taxon_faults = [(2, 1_000_001), (3, 65_536), (4, 0), (4, LOCK)];
     for (field, value) in taxon_faults {
         assert_eq!(
             refused(&changed(4, field, value)),
             Refusal::FieldOutOfRange { record: 4 }
         );
     }
-    let group_faults = [(2, 1_000_001), (3, 65_536), (3, u32::MAX), (4, 1)];
-    for (field, value) in group_faults {
+    let group_faults = [(2, 1_000_001), (3, 65_536), (3, u32::MAX)];
+    let group_plates = [1, LOCK, LOCK | 1, u32::MAX].map(|value| (4, value));
+    for (field, value) in group_faults.into_iter().chain(group_plates) {
         assert_eq!(
             refused(&changed(2, field, value)),
             Refusal::FieldOutOfRange { record: 2 }
@@ -168,10 +169,12 @@ fn too_many_taxa() {
 
 #[test]
 fn duplicate_plate() {
-    assert_eq!(
-        refused(&changed(5, 4, 12)),
-        Refusal::DuplicatePlate { record: 5 }
-    );
+    for plate_field in [12, LOCK | 12] {
+        assert_eq!(
+            refused(&changed(5, 4, plate_field)),
+            Refusal::DuplicatePlate { record: 5 }
+        );
+    }
 }
 
 #[test]
@@ -189,6 +192,22 @@ fn buffer_too_short() {
     }
     let mut buffers = Buffers::new(marks, curve, work);
     assert_eq!(buffers.choose(&bytes(&TREE_A), 5, 0), [0, 0, 12, 5, 2, 0]);
+}
+
+#[test]
+fn locked_too_dear() {
+    let locked = bytes(&changed(5, 4, LOCK | 13));
+    for way in [0, 1] {
+        for count in [0, 1] {
+            let mut buffers = Buffers::new(5, 12, 168);
+            assert_eq!(buffers.choose(&locked, count, way), [12, 0, 0, 0, 0, 0]);
+            assert!(buffers.is_untouched());
+        }
+    }
+    let mut buffers = Buffers::new(5, 12, 168);
+    assert_eq!(buffers.choose(&locked, 5, 0), [0, 0, 12, 5, 2, 0]);
+    let columns = [0, u32::MAX, 0, u32::MAX, 5, 2, 10, 3, 10, 3, 12, 5];
+    assert_eq!(buffers.curve, columns);
 }
 
 #[test]
@@ -221,12 +240,17 @@ fn first_that_holds_is_given() {
     records[65][4] = 1;
     assert_eq!(judge(&bytes(&records), 0, 1)[..2], [7, 0]);
     assert_eq!(judge(&bytes(&changed(4, 4, 11)), 0, 1)[..2], [8, 4]);
+    // the locked taxon costs 2
+    let locked = bytes(&changed(5, 4, LOCK | 13));
+    assert_eq!(judge(&locked, 1, 1)[..2], [9, 0]);
+    let answer = Buffers::new(5, 4, 56).choose(&locked, 1, 1);
+    assert_eq!(answer[..2], [12, 0]);
 }
 
 #[test]
 fn numbers_and_places() {
-    for number in 1..=11 {
-        let refusal = Refusal::from_parts(number, 7).expect("eleven refusals");
+    for number in 1..=12 {
+        let refusal = Refusal::from_parts(number, 7).expect("twelve refusals");
         assert_eq!(refusal.number(), number);
         let has_place = [5, 6, 8].contains(&number);
         assert_eq!(refusal.place(), has_place.then_some(7));
@@ -267,6 +291,11 @@ fn refusals_are_errors_with_a_sentence() {
     assert_eq!(
         pairs,
         "a taxon has no price or more than one, or a price is for a plate that no taxon has"
+    );
+    let locked = Refusal::LockedTooDear.to_string();
+    assert_eq!(
+        locked,
+        "the locked taxa, with the headings above them, cost more than the page count"
     );
     let later = |place| Refusal::from_parts(4_000, place).map(|refusal| refusal.to_string());
     let sentence = "refusal 4000, which these bindings do not know";

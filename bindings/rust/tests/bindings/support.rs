@@ -7,6 +7,9 @@ pub const WAYS: [Way; 2] = [Way::Rooted, Way::Unrooted];
 /// The fields of a record: next, first, length, price, plate.
 pub type Fields = [u32; 5];
 
+/// Bit 31 of a plate field.
+pub const LOCK: u32 = 1 << 31;
+
 pub const TREE_A: [Fields; 5] = [
     [0, 2, 0, 0, 0],
     [5, 3, 3, 0, 0],
@@ -56,8 +59,20 @@ pub fn chain(records: usize) -> Tree {
 
 /// Tree A with prices of the root's heading and of its group's.
 pub fn headed_a(root: u32, group: u32) -> Tree {
-    let inner = [Tree::taxon(11, 4, 3), Tree::taxon(12, 2, 1)];
-    let members = [Tree::headed_group(3, group, inner), Tree::taxon(13, 5, 2)];
+    locked_a(root, group, &[])
+}
+
+/// The same with these plates locked.
+pub fn locked_a(root: u32, group: u32, locked: &[u32]) -> Tree {
+    let taxon = |plate, length, price| {
+        if locked.contains(&plate) {
+            Tree::locked_taxon(plate, length, price)
+        } else {
+            Tree::taxon(plate, length, price)
+        }
+    };
+    let inner = [taxon(11, 4, 3), taxon(12, 2, 1)];
+    let members = [Tree::headed_group(3, group, inner), taxon(13, 5, 2)];
     Tree::headed_group(0, root, members)
 }
 

@@ -1,6 +1,6 @@
 -- `choice::judge::judge` meets its contract: the rows that passed leave the answer to the next one.
 use Prim.Native.Nat.{_≤_}
-use mathlib.Core.Path.{_≡_}
+use mathlib.Core.Path.{_≡_, _∙_}
 use mathlib.Core.Bool.{Bool, true, false, _&&_, not}
 use native.Mathlib.Omega.{arith}
 use lib.Dec.{eqb, ltb}
@@ -10,7 +10,9 @@ use Rattle.refusals.specs.Refusals.{Told, told, row, _▸_}
 use Rattle.refusals.proofs.Refusals.{refusal-not-zero}
 use Rattle.outline.specs.Outline.{size}
 use Rattle.outline.specs.Refusals.{mostRecords, sizeRows, recordRows}
-use Rattle.outline.proofs.Kept.{sizes-kept}
+use Rattle.outline.proofs.Kept.{sizes-kept, rows-kept}
+use Rattle.diversity.specs.Search.{noneFits}
+use Rattle.laws.proofs.Optimum.{none-exactly}
 use Rattle.choice.specs.Answer.{Call, call as callOf, mostCount, tooShort, judged}
 use Rattle.choice.proofs.judge.judge.Statement.{statement}
 use Rattle.choice.proofs.judge.judge.Tie as tie
@@ -30,9 +32,12 @@ at5 c = at2 (c .before .before .before .before)
 abbrev unknownWay : Call → Bool
 unknownWay c = not (eqb (c .way) 0) && not (eqb (c .way) 1)
 
--- the rows that are left after row 8, 4, 3 and 1
+-- the rows that are left after row 9, 8, 4, 3 and 1
+abbrev after9 : Call → Told
+after9 c = row 12 (noneFits (c .outline) (c .way) (c .count))
+
 abbrev after8 : Call → Told
-after8 c = row 9 (tooShort c)
+after8 c = row 9 (tooShort c) ▸ after9 c
 
 abbrev after4 : Call → Told
 after4 c = recordRows (c .outline) ▸ after8 c
@@ -62,10 +67,11 @@ returns-2 c =
 passed3 : (c : tie.After-enum-told2) → after3 (at2 (c .before .before)) ≡ judged (at2 (c .before .before))
 passed3 c = let sized = c .before .before in simp (← sized .check-size .ensures, c .enum-told2 .given .1) at (passed1 sized)
 
+sized : (c : tie.After-enum-told2) → sizeRows (at2 (c .before .before) .outline) .number ≡ 0
+sized c = rw (← c .before .before .check-size .ensures, c .enum-told2 .given .1)
+
 few : (c : tie.After-enum-told2) → size (at2 (c .before .before) .outline) ≤ mostRecords
-few c =
-    let pass : sizeRows (at2 (c .before .before) .outline) .number ≡ 0 = rw (← c .before .before .check-size .ensures, c .enum-told2 .given .1) in
-    sizes-kept _ pass .2
+few c = sizes-kept _ (sized c) .2
 
 returns-3 : tie.Need-returns-3
 returns-3 c =
@@ -97,9 +103,30 @@ returns-5 : tie.Need-returns-5
 unfolding tooShort
 returns-5 c = simp (← c .before .work-taken .ensures, c .if3 .taken) at (passed8 (c .before .before))
 
-returns-6 : tie.Need-returns-6
+-- and row 9
+passed9 : (c : tie.Else3) → after9 (at5 (c .before .before .before .before)) ≡ judged (at5 (c .before .before .before .before))
 unfolding tooShort
-returns-6 c = simp (← c .before .work-taken .ensures, c .if3 .left) at (passed8 (c .before .before))
+passed9 c = simp (← c .before .work-taken .ensures, c .if3 .left) at (passed8 (c .before .before))
+
+locked-cost-requires : tie.Need-locked-cost-requires
+locked-cost-requires c κs =
+    let told8 = c .before .before in
+    let records = told8 .before .before in
+    rows-kept _ (sized (records .before .before)) (rw (← records .check-records .ensures, told8 .enum-told4 .given .1))
+
+-- row 12, by what the locked taxa cost
+dear : (c : tie.After-locked-cost) →
+    let k = at5 (c .before .before .before .before .before) in
+    noneFits (k .outline) (k .way) (k .count) ≡ ltb (k .count) (c .locked-cost .result)
+dear c =
+    let k = at5 (c .before .before .before .before .before) in
+    rw (c .locked-cost .ensures) (none-exactly (k .outline) (k .way) (k .count))
+
+returns-6 : tie.Need-returns-6
+returns-6 c = let l = c .before in simp (dear l ∙ lt-ltb _ _ (c .if4 .taken)) at (passed9 (l .before))
+
+returns-7 : tie.Need-returns-7
+returns-7 c = let l = c .before in simp (dear l ∙ le-ltb _ _ (c .if4 .left)) at (passed9 (l .before))
 
 pub judge-spec : {M : Type 1} → statement M
 judge-spec =
@@ -119,4 +146,6 @@ judge-spec =
     (λ c. search needs)
     work-taken-requires
     returns-5
-    returns-6)
+    locked-cost-requires
+    returns-6
+    returns-7)

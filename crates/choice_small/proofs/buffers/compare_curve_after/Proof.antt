@@ -5,10 +5,10 @@ use Rattle.choice_small.proofs.buffers.compare_curve_after.Statement.{s
 use Rattle.choice_small.proofs.buffers.compare_curve_after.Tie as tie
 
 abbrev Inv-loop : tie.InvT-loop
-Inv-loop curve count written tally₀ i₀ t6 tally i = Unit
+Inv-loop curve columns count tally₀ i₀ t6 tally i = Unit
 
 abbrev μ-loop : tie.MeasureT-loop
-μ-loop curve count written tally₀ i₀ t6 tally i = 92 - i
+μ-loop curve columns count tally₀ i₀ t6 tally i = 92 - i
 
 pub compare-curve-after-spec : {M : Type 1} → statement M
 compare-curve-after-spec =
@@ -16,8 +16,6 @@ compare-curve-after-spec =
     (tie.spec
     Inv-loop
     μ-loop
-    (λ c. search needs)
-    (λ c. search needs)
     (λ c κs. search needs)
     (λ c. search needs)
     (λ c. search needs)

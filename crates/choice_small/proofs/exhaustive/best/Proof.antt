@@ -8,7 +8,7 @@ abbrev Inv-loop : tie.InvT-loop
 Inv-loop diversities costs sets count incumbent₀ k₀ incumbent k = Unit
 
 abbrev μ-loop : tie.MeasureT-loop
-μ-loop diversities costs sets count incumbent₀ k₀ incumbent k = sets - k
+μ-loop diversities costs sets count incumbent₀ k₀ incumbent k = sets .number - k
 
 pub best-spec : {M : Type 1} → statement M
 best-spec =
@@ -17,6 +17,7 @@ best-spec =
     Inv-loop
     μ-loop
     (λ c. search needs)
+    (λ c κs. search needs)
     (λ c κs. search needs)
     (λ c κs. search needs)
     (λ c. search needs)

@@ -7,21 +7,18 @@ use lib.ListN.{length, length-take}
 use lib.Seq.{length-take-le}
 use Rattle.text.specs.Written.{LongEnough}
 use Rattle.listing.specs.Printed.{printed}
-use Rattle.listing.proofs.Fits.{Bytes, printed-short, printed-judged, printed-whole, printed-fits}
+use Rattle.listing.proofs.Fits.{printed-short, printed-judged, printed-whole, printed-fits}
 use Rattle.listing.proofs.list.list.Statement.{statement}
 use Rattle.listing.proofs.list.list.Tie as tie
 
 -- the buffer is long enough for what is printed
-long-enough : (c : tie.After-shared-slice-known) → length (c .before .args .buffer .now) ≡ 16384
-    → LongEnough 0 (printed (c .before .args .input .now)) (c .before .args .buffer .now)
-long-enough c long =
-    let bytes : Bytes (c .before .args .input .now) = λ i. c .shared-slice-known .given i .fits in
-    omega (arith, printed-fits (c .before .args .input .now) bytes)
+long-enough : (c : tie.Start) → length (c .args .buffer .now) ≡ 16384 → LongEnough 0 (printed (c .args .input .now)) (c .args .buffer .now)
+long-enough c long = omega (arith, printed-fits (c .args .input .now))
 
 put-refusal-requires : tie.Need-put-refusal-requires
 put-refusal-requires c κs =
     let test = c .before in
-    rw (printed-short _ (test .if1 .taken)) at (long-enough (test .before) (c .put-refusal-arg .given .0 .1))
+    rw (printed-short _ (test .if1 .taken)) at (long-enough (test .before .before) (c .put-refusal-arg .given .0 .1))
 
 returns : tie.Need-returns
 returns c = rw (printed-short _ (c .before .before .if1 .taken)) (c .put-refusal .ensures)
@@ -30,7 +27,7 @@ list-bytes-requires : tie.Need-list-bytes-requires
 list-bytes-requires c κs =
     let less = c .before in
     let test = less .before in
-    (search needs, rw (printed-whole _ (test .if1 .left) (le-of-lt (less .if2 .taken))) at (long-enough (test .before) (c .list-bytes-arg .given .0 .1)))
+    (search needs, rw (printed-whole _ (test .if1 .left) (le-of-lt (less .if2 .taken))) at (long-enough (test .before .before) (c .list-bytes-arg .given .0 .1)))
 
 returns-2 : tie.Need-returns-2
 returns-2 c =
@@ -46,7 +43,7 @@ list-bytes-requires-2 : tie.Need-list-bytes-requires-2
 list-bytes-requires-2 c κs =
     let more = c .before .before in
     let test = more .before in
-    (simp length-take (search needs), rw (printed-judged _ (test .if1 .left)) at (long-enough (test .before) (c .before .list-bytes-arg2 .given .0 .1)))
+    (simp length-take (search needs), rw (printed-judged _ (test .if1 .left)) at (long-enough (test .before .before) (c .before .list-bytes-arg2 .given .0 .1)))
 
 returns-3 : tie.Need-returns-3
 returns-3 c =

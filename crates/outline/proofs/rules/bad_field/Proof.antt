@@ -7,20 +7,18 @@ use Rattle.outline.proofs.rules.bad_field.Tie as tie
 returns : tie.Need-returns
 unfolding badField
 returns c =
-    let plate = c .before .before in
-    let price = plate .before in
-    rw (price .before .branch-of .ensures, price .price-of .ensures, plate .plate-of .ensures)
-    (simp (← c .before .is-taxon .ensures, c .if1 .taken))
+    let price = c .before .before .before in
+    rw (price .before .branch-of .ensures, price .price-of .ensures, c .plate-of .ensures)
+    (simp (← c .before .before .is-taxon .ensures, c .before .if1 .taken))
 
 returns-2 : tie.Need-returns-2
 unfolding badField
 returns-2 c =
-    let plate = c .before .before in
-    let price = plate .before in
-    rw (price .before .branch-of .ensures, price .price-of .ensures, plate .plate-of .ensures)
-    (simp (← c .before .is-taxon .ensures, c .if1 .left))
+    let price = c .before .before .before in
+    rw (price .before .branch-of .ensures, price .price-of .ensures, c .plate-field-of .ensures)
+    (simp (← c .before .before .is-taxon .ensures, c .before .if1 .left))
 
 pub bad-field-spec : {M : Type 1} → statement M
 bad-field-spec =
     tie.close
-    (tie.spec (λ c. search needs) (λ c. search needs) (λ c. search needs) (λ c. search needs) returns returns-2)
+    (tie.spec (λ c. search needs) (λ c. search needs) (λ c. search needs) (λ c. search needs) (λ c. search needs) returns returns-2)

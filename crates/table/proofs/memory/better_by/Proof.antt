@@ -11,10 +11,10 @@ use Rattle.table.proofs.memory.better_by.Statement.{statement}
 use Rattle.table.proofs.memory.better_by.Tie as tie
 
 abbrev Inv-loop : tie.InvT-loop
-Inv-loop work₀ to c width b₀ work b = Filling to 0 width (λ i. betterOf (cell work₀ (to + i)) (view c)) work₀ work 0 b
+Inv-loop work₀ to c lo hi b₀ work b = Filling to lo hi (λ i. betterOf (cell work₀ (to + i)) (view c)) work₀ work lo b
 
 abbrev μ-loop : tie.MeasureT-loop
-μ-loop work₀ to c width b₀ work b = width - b
+μ-loop work₀ to c lo hi b₀ work b = hi - b
 
 loop-again : tie.Need-loop-again Inv-loop μ-loop
 loop-again c =

@@ -2,7 +2,7 @@
 use Prim.Native.Nat.{_+_, _*_, _^_, _≤_, _<_}
 use native.Mathlib.Omega.{arith}
 use borrow.Author.Needs.{needs}
-use Rattle.table.specs.Cells.{unit, view}
+use Rattle.table.specs.Cells.{unit, lift, view}
 use Rattle.table.proofs.Words.{charge-none, charge-bounds, charge-some}
 use Rattle.table.proofs.candidate.Candidate.charged.Statement.{statement}
 use Rattle.table.proofs.candidate.Candidate.charged.Tie as tie
@@ -14,7 +14,7 @@ returns c = charge-none _ _ _ _ (search needs)
 -- the sum fits
 fits : (c : tie.Else1) →
     let a = c .before .before .args in
-    (a .branch < 2 ^ 40) × (a .self .score + a .branch * unit < 2 ^ 64) × (a .price ≤ a .self .score + a .branch * unit)
+    (a .branch < lift) × (a .self .score + a .branch * unit < 2 ^ 64) × (a .price ≤ a .self .score + a .branch * unit)
 unfolding view
 fits c = charge-bounds _ _ _ _ (c .if1 .left) (c .before .before .pre)
 

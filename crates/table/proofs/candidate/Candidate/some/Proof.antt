@@ -7,7 +7,7 @@ use Rattle.table.proofs.candidate.Candidate.some.Tie as tie
 
 returns : tie.Need-returns
 unfolding view
-returns c = seen-worth _ _ _ (search needs)
+returns c = seen-worth _ _ _ _ (search needs) (search needs)
 
 pub some-spec : {M : Type 1} → statement M
-some-spec = tie.close (tie.spec (λ c. search needs) (λ c. search needs) (λ c. search needs) returns)
+some-spec = tie.close (tie.spec (λ c. search needs) (λ c. search needs) (λ c. search needs) (λ c. search needs) (λ c. search needs) returns)

@@ -1,0 +1,3 @@
+-- Laws of the functions that measure.
+pub mod Locking
+pub mod Parts

@@ -1,0 +1,3 @@
+-- What measuring a set of taxa gives.
+pub mod Inner
+pub mod Measures
