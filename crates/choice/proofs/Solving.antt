@@ -8,6 +8,7 @@ use native.Mathlib.Nat.{mul-le-mul-right}
 use lib.Dec.{eqb}
 use lib.ListN.{length, replicate}
 use Rattle.lists.specs.Lists.{pick, one, from, over}
+use Rattle.lists.proofs.Bools.{pick-most}
 use Rattle.lists.proofs.Buffers.{over-at}
 use Rattle.outline.specs.Outline.{size, records, branch}
 use Rattle.outline.specs.Refusals.{mostRecords}
@@ -33,10 +34,6 @@ use Rattle.choice.proofs.Columns.{columns-long, column-diversity, colum
 use Rattle.choice.proofs.Shown.{complete-is, shown-by}
 
 -- ---- how large the numbers are
-pick-most : (b : Bool) (n : ℕ) → pick b n 0 ≤ n
-pick-most true n = omega arith
-pick-most false n = omega arith
-
 -- 127 records with branches of a million
 pub diversity-most : (o : List ℕ) → Kept o → (way : ℕ) (s : List ℕ) → diversity o way s ≤ mostRecords * 1000000
 unfolding diversity rooted unrooted records

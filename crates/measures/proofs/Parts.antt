@@ -6,10 +6,11 @@ use mathlib.Core.List.{List}
 use native.Mathlib.Omega.{arith}
 use lib.Dec.{eqb, leb}
 use borrow.Author.Tests.{leb-true, leb-false, ne-eqb}
+use mir.Val.{boolByte}
 use Rattle.lists.specs.Lists.{pick, one}
+use Rattle.lists.proofs.Bools.{byte-one, one-le, pick-most}
 use Rattle.outline.specs.Outline.{size, next, first, branch, price, records}
 use Rattle.outline.specs.Refusals.{mostRecords}
-use Rattle.lists.proofs.Bools.{one-le}
 use Rattle.outline.specs.Kept.{Later, Kept}
 use Rattle.diversity.specs.Diversity.{chosen, rooted, unrooted, diversity, cost, chosenTaxa}
 use Rattle.laws.specs.Forest.{Forest, node, sumIn, tree}
@@ -36,11 +37,6 @@ crossing-yes zero all h e = absurd (false≢true (sym h))
 crossing-yes (suc k) all h e =
     let some : 0 < all - suc k = omega (arith, leb-false all (suc k) (rw (ne-eqb (suc k) 0 (omega arith)) at h)) in
     rw (positive-true (all - suc k) some) e
-
--- what is picked is at most what there is
-pick-most : (b : Bool) (w : ℕ) → pick b w 0 ≤ w
-pick-most true w = omega arith
-pick-most false w = omega arith
 
 -- ---- how large the sums are
 pub record Small (taxa cost diversity : ℕ) : Type 0 where
@@ -80,27 +76,30 @@ module _ (o : List ℕ) (kept : Kept o) (s : List ℕ) (all : ℕ) where
             );
       }
 
-  pub clade-small : (r : ℕ) → 1 ≤ r → r ≤ size o → SmallIn o s all (cladeOf o r)
-  clade-small r l u =
-      let whole = tree-small r u in
-      let step = tree-step o (kept .linked) r l u in
-      record {
-        taxa-most = omega (arith, ap (chosenIn (chosen s)) step, whole .taxa-most);
-        cost-most = omega (arith, ap (costIn o (chosen s)) step, whole .cost-most);
-        diversity-most = omega (arith, ap (sumIn (crossing o (chosen s) all)) step, whole .diversity-most);
-      }
-
 -- ---- a clade
 module _ {o : List ℕ} {r : ℕ} {s : List ℕ} {all : ℕ} {members : Measure} (h : InClade o r s all members) where
   -- the chosen taxa at or below record r
   pub below-is : members .taxa + one (chosen s r) ≡ one (chosen s r) + chosenIn (chosen s) (tree o (first o r))
   below-is = omega (arith, h .below .taxa-is)
 
-  small : SmallIn o s all (cladeOf o r)
-  small = clade-small o (h .base .kept) s all r (h .is-record .low) (h .is-record .high)
+  -- whatever the record counts of itself, the sums keep to 32 bits
+  small : SmallIn o s all (tree o (first o r))
+  small =
+      let kept = h .base .kept in
+      tree-small o kept s all (first o r) (kept .linked .first-later r (h .is-record .low) (h .is-record .high) .most)
 
-  pub taxa-fit : members .taxa + one (chosen s r) ≤ mostRecords
-  taxa-fit = omega (arith, below-is, small .taxa-most)
+  pub taxa-fit : (own : Bool) → members .taxa + boolByte own < 2 ^ 32
+  taxa-fit own = omega (arith, h .below .taxa-is, small .taxa-most, byte-one own, one-le own)
+
+  pub cost-fits : {v : ℕ} (b : Bool) → v ≡ pick b (price o r) 0 → members .cost + v < 2 ^ 32
+  cost-fits b e =
+      let ranged = h .base .kept .ranged r (h .is-record .low) (h .is-record .high) in
+      omega (arith, e, pick-most b (price o r), ranged .price-most, h .below .cost-is, small .cost-most)
+
+  pub diversity-fits : {v : ℕ} (b : Bool) → v ≡ pick b (branch o r) 0 → members .diversity + v < 2 ^ 32
+  diversity-fits b e =
+      let ranged = h .base .kept .ranged r (h .is-record .low) (h .is-record .high) in
+      omega (arith, e, pick-most b (branch o r), ranged .branch-most, h .below .diversity-is, small .diversity-most)
 
   pub cost-counted : {b p : ℕ} → b ≡ members .taxa + one (chosen s r) → p ≡ pick (positive b) (price o r) 0
       → members .cost + p ≡ costIn o (chosen s) (cladeOf o r)
@@ -114,13 +113,6 @@ module _ {o : List ℕ} {r : ℕ} {s : List ℕ} {all : ℕ} {members : Measure}
       → d ≡ pick (positive b && positive (all - b)) (branch o r) 0
       → CladeMeasured o r s all (record { taxa = b; cost = members .cost + p; diversity = members .diversity + d })
   clade-measured e p d = record { taxa-is = omega (arith, below-is); cost-is = cost-counted e p; diversity-is = diversity-counted e d }
-
-  pub cost-fits : {b p : ℕ} → b ≡ members .taxa + one (chosen s r) → p ≡ pick (positive b) (price o r) 0 → members .cost + p < 2 ^ 32
-  cost-fits e p = omega (arith, cost-counted e p, small .cost-most)
-
-  pub diversity-fits : {b d : ℕ} → b ≡ members .taxa + one (chosen s r) → d ≡ pick (positive b && positive (all - b)) (branch o r) 0
-      → members .diversity + d < 2 ^ 32
-  diversity-fits e d = omega (arith, diversity-counted e d, small .diversity-most)
 
 -- ---- a chain
 -- how many records are left from r on: fewer at each link

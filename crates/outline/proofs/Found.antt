@@ -2,7 +2,7 @@
 use Prim.Native.Nat.{ℕ, _+_, _*_, _-_, _%_, _≤_, _<_}
 use mathlib.Core.Path.{_≡_, refl, sym, ap, _∙_}
 use mathlib.Core.Bool.{Bool, true, false, false≢true}
-use mathlib.Core.List.{List, [], _∷_}
+use mathlib.Core.List.{List, []}
 use mathlib.Core.Logic.{_↔_}
 use native.Mathlib.Omega.{arith}
 use lib.ListN.{length, getD, take, drop, length-drop}
@@ -134,10 +134,16 @@ module _ (o : List ℕ) (p : ℕ) where
           (a, record { at = at; low = low; high = high; taxon = taxon; plated = plated })
       go false a z e h = absurd (omega arith)
 
-  -- a plate's number has 31 bits: for a greater one nothing is found
-  pub found-none : 2147483647 < p → found o p ≡ []
-  found-none h = no-length (found o p) (λ k. let holder = found-exactly .0 k .1 in omega (arith, holder .plated))
+  -- a plate's number has 31 bits: for a greater one there is no record, and the part is empty
+  pub found-at-none : 2147483647 < p → foundAt o p ≡ 0
+  unfolding foundAt at
+  found-at-none h = go (isAccepted o) (eqb at 0) refl
     where
-      no-length : (l : List ℕ) → (0 < length l → ⊥) → l ≡ []
-      no-length [] e = refl
-      no-length (x ∷ l) e = absurd (e (omega arith))
+      go : (a z : Bool) → eqb at 0 ≡ z → pick a at 0 ≡ 0
+      go true true e = eqb-true _ _ e
+      go true false e = let (low, high, taxon, plated) = at-holds (eqb-false at 0 e) in absurd (omega (arith, plated))
+      go false z e = refl
+
+  pub found-none : 2147483647 < p → found o p ≡ []
+  unfolding found
+  found-none h = rw (found-at-none h)

@@ -5,11 +5,10 @@ ghost use Prim.Native.Nat.{_-_, _<_};
 ghost use Rattle.laws.specs.Candidate.{nothingWorth, none, some, betterOf, joinOf, chargeOf};
 ghost use Rattle.table.specs.Cells.{unit, lift, view, lockedOf, diversityOf, costOf, Joinable, Chargeable};
 
-// A score takes a diversity times UNIT, less the cost. Costs are below UNIT, so that scores compare by diversity first and then
-// by cost.
+// A score takes locked taxa and diversity times UNIT, less the cost. Costs are below UNIT, so that scores compare by cost last.
 pub const UNIT: u64 = 65536;
 
-// Times this, a number of locked taxa leaves room for a diversity below it.
+// Locked taxa count LIFT times in it. Diversities are below LIFT, so that scores compare by locked taxa first.
 pub const LIFT: u64 = 4294967296;
 
 // Two words that compare as sets do, and are stored and read as they are.

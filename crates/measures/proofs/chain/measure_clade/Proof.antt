@@ -1,7 +1,7 @@
 -- `measures::chain::measure_clade` meets its contract: the record counts where a taxon at or below it is chosen.
-use Prim.Native.Nat.{_+_, _-_}
+use Prim.Native.Nat.{ℕ, _+_, _-_}
 use mathlib.Core.Path.{_≡_, ap}
-use native.Mathlib.Omega.{arith}
+use mathlib.Core.Bool.{Bool, _&&_}
 use lib.Dec.{eqb}
 use lib.ListN.{getD}
 use mir.Val.{boolByte}
@@ -9,6 +9,7 @@ use borrow.Author.Needs.{needs}
 use Rattle.lists.specs.Lists.{one}
 use Rattle.lists.proofs.Bools.{byte-one}
 use Rattle.diversity.specs.Diversity.{chosen}
+use Rattle.laws.proofs.Sums.{positive}
 use Rattle.measures.proofs.Parts.{taxa-fit, cost-fits, diversity-fits, clade-measured}
 use Rattle.measures.proofs.chain.measure_clade.Statement.{statement}
 use Rattle.measures.proofs.chain.measure_clade.Tie as tie
@@ -16,24 +17,30 @@ use Rattle.measures.proofs.chain.measure_clade.Tie as tie
 abbrev start : tie.After-struct-known → tie.Start
 start c = c .before .before .before .before
 
--- the chosen taxa at or below the record
-below-is : (c : tie.After-struct-known) →
-    let a = start c .args in
-    a .members .taxa + boolByte (eqb (getD (a .marks .now) (a .r - 1) 0) 1) ≡ a .members .taxa + one (chosen (a .marks .now) (a .r))
+-- whether the record is marked, and the chosen taxa at or below it
+abbrev own : tie.After-struct-known → Bool
+own c = let a = start c .args in eqb (getD (a .marks .now) (a .r - 1) 0) 1
+
+abbrev below : tie.After-struct-known → ℕ
+below c = start c .args .members .taxa + boolByte (own c)
+
+below-is : (c : tie.After-struct-known) → let a = start c .args in below c ≡ a .members .taxa + one (chosen (a .marks .now) (a .r))
 unfolding chosen
-below-is c = let a = start c .args in ap (λ k. a .members .taxa + k) (byte-one (eqb (getD (a .marks .now) (a .r - 1) 0) 1))
+below-is c = ap (λ k. start c .args .members .taxa + k) (byte-one (own c))
 
 add-below : tie.Need-add-below
-add-below c = omega (arith, below-is c, taxa-fit (start c .pre))
+add-below c = record { fits = taxa-fit (start c .pre) (own c) }
 
 add-cost : tie.Need-add-t13
-add-cost c = let p = c .before in record { fits = cost-fits (start (p .before) .pre) (below-is (p .before)) (p .price-counted .ensures) }
+add-cost c =
+    let p = c .before in
+    record { fits = cost-fits (start (p .before) .pre) (positive (below (p .before))) (p .price-counted .ensures) }
 
 add-diversity : tie.Need-add-t15
 add-diversity c =
     let b = c .before in
-    let p = b .before .before in
-    record { fits = diversity-fits (start (p .before) .pre) (below-is (p .before)) (b .branch-counted .ensures) }
+    let s = b .before .before .before in
+    record { fits = diversity-fits (start s .pre) (positive (below s) && positive (start s .args .all - below s)) (b .branch-counted .ensures) }
 
 returns : tie.Need-returns
 returns c =
