@@ -2,7 +2,7 @@
 # make lib       the static library, target/staticlib/libplates.a
 # make install   libplates.a, plates.h and plates.pc under PREFIX (default /usr/local; DESTDIR is put before it);
 #                make uninstall takes them away
-# make examples  the two example programs on tree A
+# make examples  the example programs on tree A, in C and in Rust
 # make scale     the library as it is linked, compared with independent code
 # make bench     times beside other tools; those that are not installed are left out
 # make bench-beside BESIDE=FILE   times beside another build, whose libplates.a is FILE
@@ -35,6 +35,9 @@ examples: lib
 	$(CC) -std=c11 -O2 -Wall -Wextra -pedantic -Iinclude examples/tree_a.c $(LIBRARY) -o target/examples/tree_a
 	target/examples/tree_a
 	$(CARGO) run --offline --manifest-path bindings/rust/Cargo.toml --example tree_a
+	$(CC) -std=c11 -O2 -Wall -Wextra -pedantic -Iinclude examples/send_back.c $(LIBRARY) -o target/examples/send_back
+	target/examples/send_back
+	$(CARGO) run --offline --manifest-path bindings/rust/Cargo.toml --example send_back
 
 scale: lib
 	bash tests/run

@@ -9,6 +9,7 @@
  * Systematic Biology 56(3), 2007).
  *
  *     plates_read     the outline of a tree in Newick form
+ *     plates_write    an outline's tree in Newick form again
  *     plates_check    whether an outline is sound, and if not what is wrong and where
  *     plates_find     the record of the taxon that has a given plate
  *     plates_choose   the best taxa for a page count
@@ -102,6 +103,21 @@
  *
  * Records are numbered as their parts begin in the text: the root first, then its first member with all below it, and so on.
  *
+ * plates_write writes an outline as text and pairs, to return a tree to its author. There is one spelling: no blanks, tabs or
+ * line ends, no leading zeros, and a colon and the length after every part, the root too. The members of a group stand in the
+ * order of their links, and the pairs in the order of the text. Tree A, with the pairs above, is written
+ *
+ *     ((11:4,12:2):3,13:5):0;
+ *
+ * plates_read accepts what plates_write has written. It gives back the same bytes if the records are numbered as in the text,
+ * and so they are in every outline that plates_read made. Otherwise it numbers them anew, and of sets that are equal in
+ * diversity and cost another may then be the best. What is read from a written text is written as the same text.
+ *
+ * A heading with a price, a lock and a plate of 10 digits have no form in the text: an outline that has one is refused (13).
+ * The caller may clear prices of headings and locks in a copy first. The taxon of record r is locked no more by
+ *
+ *     copy[PLATES_OUTLINE_LEN(r) - 1] &= 0x7f;
+ *
  *
  * WHAT IS BEST
  *
@@ -144,13 +160,14 @@
  *
  * WHAT THE CALLER HAS TO KEEP
  *
- * marks, curve and work are lent space, and so is the outline of plates_read: buffers that a result is written to, and that a
- * refusal leaves as they were. answer and place are no lent space. They carry the numbers that a call gives, so they are
- * written in any case, on a refusal too.
+ * marks, curve and work are lent space, and so are the outline of plates_read and the text and pairs of plates_write: buffers
+ * that a result is written to, and that a refusal leaves as they were. answer and place are no lent space. They carry the
+ * numbers that a call gives, so they are written in any case, on a refusal too.
  *
  * - No pointer is null, not even where the length is 0, and each points to at least as many elements as its length says.
  *   Lengths are numbers of elements: text_len, outline_len and marks_len in bytes, pairs_len and curve_len in uint32_t,
- *   work_len in uint64_t. The answer of plates_choose has 6 elements, that of plates_read has 3, place has 1.
+ *   work_len in uint64_t. The answer of plates_choose has 6 elements, that of plates_read has 3, that of plates_write has
+ *   4, place has 1.
  * - Each pointer is aligned as its element type asks. text, outline and marks may begin at any byte.
  * - What a call writes (lent space, answer, place) overlaps nothing else that it is handed.
  * - While a call runs, nobody else writes what it is handed, and nobody else reads what it writes.
@@ -164,12 +181,13 @@
  *   is refused, and a refusal of the table below is the only way for a call to fail.
  * - Nothing is allocated, no file is touched, and there is no global state. Calls on different buffers may run at the same
  *   time, and may share an outline.
- * - Nothing is written but what is named at each function. Only plates_read writes an outline.
+ * - Nothing is written but what is named at each function, and no byte 0 behind a text. Only plates_read writes an outline.
  * - The time of a call is bounded. That of plates_choose grows linearly with the count; checking and finding take at most a few
- *   steps for each pair of records, and reading also for each byte of the text and for each record with each pair of numbers.
- * - Little stack is used, since the table stands in work: calls nest no deeper than there are records, which takes less than
- *   64 KB on x86-64 for the deepest outlines. Reading a text takes less than 70 KB, however deep it is: its calls nest for 127
- *   records, and no deeper.
+ *   steps for each pair of records, writing also for each byte of the text, and reading also for each byte of the text and for
+ *   each record with each pair of numbers.
+ * - Little stack is used, since the table stands in work: choosing and writing nest no deeper than there are records, which
+ *   takes less than 64 KB on x86-64 for the deepest outlines. Reading a text takes less than 70 KB, however deep it is: its
+ *   calls nest for 127 records, and no deeper.
  */
 #ifndef PLATES_H
 #define PLATES_H
@@ -210,23 +228,31 @@ extern "C" {
  *
  *     outline   bytes       PLATES_OUTLINE_LEN(records)
  *     pairs     uint32_t    PLATES_PAIRS_LEN(taxa)
+ *     text      bytes       PLATES_WRITTEN_LEN(records, taxa)
  *     marks     bytes       PLATES_MARKS_LEN(records)
  *     curve     uint32_t    PLATES_CURVE_LEN(count)
  *     work      uint64_t    PLATES_WORK_LEN(records, count)
  *
- * answer is no buffer, and always has PLATES_ANSWER_LEN uint32_t, for plates_read PLATES_READ_ANSWER_LEN: see below.
+ * text is that of plates_write, and its length one that always suffices: 18 bytes for each taxon and 10 for each group, as many
+ * as there are where every plate has 9 digits and every length 7. The other lengths are exact.
+ *
+ * answer is no buffer, and always has PLATES_ANSWER_LEN uint32_t, for plates_read PLATES_READ_ANSWER_LEN and for plates_write
+ * PLATES_WRITE_ANSWER_LEN: see below.
  */
 #define PLATES_OUTLINE_LEN(records) (PLATES_CAST_(size_t, PLATES_RECORD_BYTES) * PLATES_CAST_(size_t, records))
 #define PLATES_PAIRS_LEN(taxa) (PLATES_CAST_(size_t, 2) * PLATES_CAST_(size_t, taxa))
+#define PLATES_WRITTEN_LEN(records, taxa) \
+    (PLATES_CAST_(size_t, 10) * PLATES_CAST_(size_t, records) + PLATES_CAST_(size_t, 8) * PLATES_CAST_(size_t, taxa))
 #define PLATES_MARKS_LEN(records) PLATES_CAST_(size_t, records)
 #define PLATES_CURVE_LEN(count) (PLATES_CAST_(size_t, 2) * (PLATES_CAST_(size_t, count) + 1))
 #define PLATES_WORK_LEN(records, count) \
     (PLATES_CAST_(size_t, 4) * (PLATES_CAST_(size_t, records) + 2) * (PLATES_CAST_(size_t, count) + 1))
 
-/* The same for the largest outline and the largest count: enough for every call. The most work is 16,912,416 bytes, more than a
- * usual stack has. */
+/* The same for the largest outline and the largest count: enough for every call. No text that is written has more
+ * than 1,782 bytes. The most work is 16,912,416 bytes, more than a usual stack has. */
 #define PLATES_MOST_OUTLINE_LEN PLATES_OUTLINE_LEN(PLATES_MOST_RECORDS)
 #define PLATES_MOST_PAIRS_LEN PLATES_PAIRS_LEN(PLATES_MOST_TAXA)
+#define PLATES_MOST_WRITTEN_LEN PLATES_WRITTEN_LEN(PLATES_MOST_RECORDS, PLATES_MOST_TAXA)
 #define PLATES_MOST_MARKS_LEN PLATES_MARKS_LEN(PLATES_MOST_RECORDS)
 #define PLATES_MOST_CURVE_LEN PLATES_CURVE_LEN(PLATES_MOST_COUNT)
 #define PLATES_MOST_WORK_LEN PLATES_WORK_LEN(PLATES_MOST_RECORDS, PLATES_MOST_COUNT)
@@ -238,11 +264,11 @@ enum plates_way {
 };
 
 /*
- * What plates_check, plates_choose and plates_read give: PLATES_OK or a refusal. Refusals are judged in an order, that of their
- * numbers unless the function says another, and the first that holds is given. A refusal has a place: the number of the record
- * at fault, from 1, or 0 where no one record is.
+ * What plates_read, plates_write, plates_check and plates_choose give: PLATES_OK or a refusal. Refusals are judged in an order,
+ * that of their numbers unless the function says another, and the first that holds is given. A refusal has a place: the number
+ * of the record at fault, from 1, or 0 where no one record is.
  *
- * Later versions add refusals, with numbers from 13 on. So treat any number other than PLATES_OK as a refusal, also one that is
+ * Later versions add refusals, with numbers from 14 on. So treat any number other than PLATES_OK as a refusal, also one that is
  * not named here: give a switch over these a default.
  */
 enum plates_refusal {
@@ -267,7 +293,7 @@ enum plates_refusal {
     /* An earlier taxon has the same plate, whatever their locks; place is the lowest such record, so the later of the two. */
     PLATES_DUPLICATE_PLATE = 8,
     /* marks, curve or work is shorter than PLATES_MARKS_LEN, PLATES_CURVE_LEN or PLATES_WORK_LEN says, or the outline of
-     * plates_read than PLATES_OUTLINE_LEN says; place 0. */
+     * plates_read than PLATES_OUTLINE_LEN says, or the text or the pairs of plates_write than what is to be written; place 0. */
     PLATES_BUFFER_TOO_SHORT = 9,
     /* The text is no tree in the form above, or has more than 16,384 bytes; place 0. */
     PLATES_BAD_TEXT = 10,
@@ -276,7 +302,10 @@ enum plates_refusal {
     PLATES_BAD_PAIRS = 11,
     /* No set that has every locked taxon fits the page count: the locked taxa themselves, with the headings above them, cost
      * more; place 0. */
-    PLATES_LOCKED_TOO_DEAR = 12
+    PLATES_LOCKED_TOO_DEAR = 12,
+    /* The record has what a text has no form for: it is a group whose price is above 0, or a taxon that is locked or whose plate
+     * is above 999,999,999; place is the lowest such record. It is judged after 8 and before 9. */
+    PLATES_UNWRITABLE = 13
 };
 
 /* What stands where in the answer of plates_choose. */
@@ -306,6 +335,16 @@ enum plates_read_answer {
     PLATES_READ_ANSWER_LEN = 3
 };
 
+/* The same for plates_write, whose number and place stand there too. */
+enum plates_write_answer {
+    /* How many bytes the text has. This and what follows are 0 for a refusal. */
+    PLATES_WRITE_ANSWER_BYTES = 2,
+    /* How many pairs there are, one for each taxon; a pair is two numbers. */
+    PLATES_WRITE_ANSWER_PAIRS = 3,
+    /* The number of elements. */
+    PLATES_WRITE_ANSWER_LEN = 4
+};
+
 /*
  * Reads a tree from text, with its prices beside it, and writes its outline.
  *
@@ -324,10 +363,25 @@ uint32_t plates_read(const uint8_t *text, size_t text_len, const uint32_t *pairs
                      uint8_t *outline, size_t outline_len, uint32_t answer[3]);
 
 /*
+ * Writes an outline as text, with its prices beside it.
+ *
+ * Gives PLATES_OK, or the first of refusals 2, 3, 5 to 8, 13 and 9 that holds, in this order, and writes all four elements of
+ * answer in any case. On PLATES_OK, for B bytes and P pairs:
+ *
+ *     text    the first B: the tree, up to its semicolon
+ *     pairs   the first 2 * P: plate and price of each taxon, in the order of the text
+ *
+ * Elements beyond these stay as they were, so a buffer may be longer than needed. On a refusal text and pairs both stay as they
+ * were. A text of PLATES_MOST_WRITTEN_LEN bytes and pairs of PLATES_MOST_PAIRS_LEN numbers have room for every outline.
+ */
+uint32_t plates_write(const uint8_t *outline, size_t outline_len, uint8_t *text, size_t text_len,
+                      uint32_t *pairs, size_t pairs_len, uint32_t answer[4]);
+
+/*
  * Whether an outline is sound.
  *
- * Gives PLATES_OK, or the first of refusals 2, 3 and 5 to 8 that holds (the others concern choosing or reading). *place is
- * written in any case: the refusal's place, 0 for PLATES_OK.
+ * Gives PLATES_OK, or the first of refusals 2, 3 and 5 to 8 that holds (the others concern reading, writing or choosing).
+ * *place is written in any case: the refusal's place, 0 for PLATES_OK.
  */
 uint32_t plates_check(const uint8_t *outline, size_t outline_len, uint32_t *place);
 

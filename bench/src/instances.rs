@@ -10,8 +10,8 @@ pub const COUNT: u32 = 4_096;
 /// Sums of 127 lengths keep within the six digits that IQ-TREE prints.
 const LONGEST: u32 = 1_000;
 
-const TAXA: usize = 64;
-const LEVELS: u32 = 6;
+pub const TAXA: usize = 64;
+pub const LEVELS: u32 = 6;
 /// 64 prices of 1 to 127 come to about 4,096.
 const DEAREST: u32 = 127;
 const DEAREST_HEADING: u32 = 31;
@@ -70,6 +70,13 @@ fn drawn(name: &str, mut records: Vec<Record>, seed: u64, dearest: u32) -> Insta
         records,
         count: COUNT,
     }
+}
+
+/// Numbers for a text, where no budget has to be tight: a taxon may be free.
+pub fn filled(mut records: Vec<Record>, random: &mut Random) -> Vec<Record> {
+    let length = |random: &mut Random| random.up_to(LONGEST);
+    shapes::fill(&mut records, random, length, |random| random.up_to(DEAREST));
+    records
 }
 
 /// Gives every group a price of 1 to the dearest.

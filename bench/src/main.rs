@@ -1,6 +1,6 @@
-//! Measures `plates_choose` beside clearing `work`, IQ-TREE 2, GLPK and two tables in Rust, and `plates_read` beside a plain
-//! reader in Rust, and prints the times in Markdown. With `--beside` it measures `plates_choose` beside another build's instead,
-//! to see what a change costs.
+//! Measures `plates_choose` beside clearing `work`, IQ-TREE 2, GLPK and two tables in Rust, `plates_read` beside a plain reader
+//! in Rust and `plates_write` beside a plain writer in Rust, and prints the times in Markdown. With `--beside` it measures
+//! `plates_choose` beside another build's instead, to see what a change costs.
 
 mod beside;
 mod case;
@@ -15,6 +15,8 @@ mod report;
 mod scratch;
 mod times;
 mod tree;
+mod writer;
+mod writing;
 
 use beside::Build;
 use case::{Buffers, Case};
@@ -24,6 +26,7 @@ use report::Missing;
 use scratch::Scratch;
 use std::path::Path;
 use std::process::ExitCode;
+use writing::Writing;
 
 const USAGE: &str = "\
 bench [--quick | --beside OTHER THIS]
@@ -85,9 +88,11 @@ fn run(plan: &Plan) -> Result<(), String> {
     if !plan.quick {
         run_slow_peers(&mut groups, &mut buffers, scratch.path())?;
     }
-    let readings = measure_readings(plan);
+    let readings = measured(plan, reading::all(), Reading::measure);
+    let writings = measured(plan, writing::all(), Writing::measure);
     print(plan, &groups, &sizes);
     report::readings(&readings);
+    report::writings(&writings);
     Ok(())
 }
 
@@ -147,14 +152,14 @@ fn measure(
     Ok(())
 }
 
-fn measure_readings(plan: &Plan) -> Vec<Reading> {
-    let mut readings = reading::all();
+/// The readings or the writings, with their times.
+fn measured<T>(plan: &Plan, mut all: Vec<T>, measure: impl Fn(&mut T)) -> Vec<T> {
     for _ in 0..plan.rounds {
-        for reading in &mut readings {
-            (0..plan.calls).for_each(|_| reading.measure());
+        for one in &mut all {
+            (0..plan.calls).for_each(|_| measure(one));
         }
     }
-    readings
+    all
 }
 
 /// The peers that may be slow, after the rounds and only on the largest count of each outline and way.

@@ -1,5 +1,6 @@
 //! Texts that are read by `plates_read` and by the plain reader.
 
+use crate::instances::{filled, TAXA};
 use crate::reader;
 use crate::times::{timed, Times};
 use plates_scale::mangle::{faulty_call, sound_call, Fault};
@@ -9,7 +10,6 @@ use plates_scale::spell::{pairs, spelled, Style};
 use plates_scale::{library, shapes, text_cases};
 use std::hint::black_box;
 
-const TAXA: usize = 64;
 const MOST_BYTES: usize = 16_384;
 /// Bytes for 127 records.
 const ROOM: usize = 2_032;
@@ -64,9 +64,7 @@ impl Reading {
 
 pub fn all() -> Vec<Reading> {
     let random = &mut Random::new(1);
-    let mut tree = shapes::random_tree(TAXA, random);
-    let length = |random: &mut Random| random.up_to(1_000);
-    shapes::fill(&mut tree, random, length, |random| random.up_to(127));
+    let tree = filled(shapes::random_tree(TAXA, random), random);
     let text = spelled(&tree, &Style::plain(), random);
     let prices = pairs(&tree, random);
     let blanks = padded(&text);

@@ -3,8 +3,9 @@
 use crate::beside::Pair;
 use crate::case::Case;
 use crate::glpk;
-use crate::reading::{agreement as agreement_of, Reading};
+use crate::reading::{self, Reading};
 use crate::times::{digits, microseconds, milliseconds, Times};
+use crate::writing::{self, Writing};
 
 /// What stands in the table for a peer that has no time.
 pub struct Missing {
@@ -43,6 +44,14 @@ Microseconds. The plain reader is Rust and goes over the text once, with a stack
 refusals, and the check of the outline is that of plates. Both are called in turn; the ratio is that of the medians. The first
 text has lengths and no blanks, the next two are as long as a text can be, and one list of taxa is given at four lengths. A text
 of more than 127 records is refused with 3, after all of it is read.
+";
+
+const WRITING: &str = "\
+Medians in microseconds. The plain writer is Rust, goes down the links once and drafts text and pairs, then copies them if they
+fit; it gives the same refusals, and the check of the outline is that of plates. Both are called in turn; \"times\" says how many
+times as long plates takes. The first outline is a random tree; the last is the same with its last record locked, and refused
+with 13. The second has pairs of pairs, plates of 9 digits and lengths of 1,000,000: no text is longer. In the caterpillar each
+group is a taxon and then the rest: no outline of 64 taxa is deeper.
 ";
 
 const BUILDS: &str = "\
@@ -271,8 +280,11 @@ pub fn readings(readings: &[Reading]) {
     ]);
     let rows: Vec<_> = readings.iter().map(reading_row).collect();
     print_table(&head, &rows);
-    let [compared, differing] = agreement_of(readings);
-    println!("Answers of the plain reader compared with those of plates: {compared}, differing: {differing}.\n");
+    print_agreement("plain reader", reading::agreement(readings));
+}
+
+fn print_agreement(peer: &str, [compared, differing]: [usize; 2]) {
+    println!("Answers of the {peer} compared with those of plates: {compared}, differing: {differing}.\n");
 }
 
 fn reading_row(reading: &Reading) -> Vec<String> {
@@ -291,6 +303,33 @@ fn reading_row(reading: &Reading) -> Vec<String> {
     ];
     row.extend(times.map(|time| time.map_or(String::new(), microseconds)));
     row.push(ratio(plates.median(), plain.median()));
+    row
+}
+
+pub fn writings(writings: &[Writing]) {
+    println!("### Writing texts\n\n{WRITING}");
+    let head = words([
+        "outline",
+        "records",
+        "bytes",
+        "plates",
+        "plain writer",
+        "times",
+    ]);
+    let rows: Vec<_> = writings.iter().map(writing_row).collect();
+    print_table(&head, &rows);
+    print_agreement("plain writer", writing::agreement(writings));
+}
+
+fn writing_row(writing: &Writing) -> Vec<String> {
+    let times = [writing.plates.median(), writing.plain.median()];
+    let mut row = vec![
+        writing.name.to_string(),
+        writing.records.to_string(),
+        writing.bytes.to_string(),
+    ];
+    row.extend(times.map(|time| time.map_or(String::new(), microseconds)));
+    row.push(ratio(times[0], times[1]));
     row
 }
 

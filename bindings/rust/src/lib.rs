@@ -12,8 +12,9 @@
 //! [`Outline::from_newick`], or made from a [`Tree`], which is built by nesting; groups whose
 //! headings take space are built with [`Tree::headed_group`], and locked taxa with
 //! [`Tree::locked_taxon`]. [`choose`], also a method of the outline, gives a [`Choice`] for an
-//! outline, a page count and a [`Way`]. What is wrong with a text, an outline or a page count is
-//! told as a [`Refusal`].
+//! outline, a page count and a [`Way`]. [`Outline::to_newick`] writes an outline as text again, to
+//! return a tree to its author. What is wrong with a text, an outline or a page count is told as a
+//! [`Refusal`].
 //!
 //! ```
 //! use plates::{Outline, Tree, Way};
@@ -55,7 +56,7 @@ pub mod sys;
 mod tree;
 
 pub use choice::{choose, choose_in, Choice, Column, Way, Work, MOST_COUNT};
-pub use newick::MOST_TEXT_LEN;
+pub use newick::{Newick, MOST_TEXT_LEN};
 pub use outline::{Outline, Record, MOST_PLATE, MOST_RECORDS, MOST_TAXA, RECORD_BYTES};
 pub use refusal::Refusal;
 pub use tree::{Tree, TreeError};

@@ -4,16 +4,17 @@ use std::error::Error;
 use std::fmt;
 
 /// Why an outline, a text or a call is refused. Where several reasons hold, the first in this order
-/// is given; reading a text has an order of its own, which
-/// [`Outline::from_newick`](crate::Outline::from_newick) says.
+/// is given, but for two things: reading a text has an order of its own, which
+/// [`Outline::from_newick`](crate::Outline::from_newick) says, and in writing one, number 13 is
+/// judged before 9.
 ///
-/// The library's table of refusals grows: later versions add numbers from 13 on. So a `match` has
+/// The library's table of refusals grows: later versions add numbers from 14 on. So a `match` has
 /// an arm for the rest, and a number that these bindings do not know is a refusal all the same, as
 /// [`Other`](Refusal::Other).
 ///
 /// Through the safe interface only some of them arise: the bytes of an [`Outline`](crate::Outline)
 /// are refused with numbers 2, 3 and 5 to 8, a text with 3, 5, 7, 8, 10 and 11, choosing with
-/// numbers 4 and 12. Numbers 1 and 9 are for those who call [`sys`](crate::sys).
+/// numbers 4 and 12, writing with 13. Numbers 1 and 9 are for those who call [`sys`](crate::sys).
 ///
 /// ```
 /// use plates::{Outline, Refusal};
@@ -57,7 +58,8 @@ pub enum Refusal {
         /// The lowest such record, from 1: the later of the two.
         record: u32,
     },
-    /// 9: marks, curve or work is too short, or the outline to read a text to.
+    /// 9: marks, curve or work is too short, or the outline to read a text to, or the text or pairs
+    /// to write to.
     BufferTooShort,
     /// 10: the text is no tree in the form that
     /// [`Outline::from_newick`](crate::Outline::from_newick) reads, or has more than 16,384 bytes.
@@ -68,6 +70,12 @@ pub enum Refusal {
     /// 12: no set that has every locked taxon fits the page count: the locked taxa themselves, with
     /// the headings above them, cost more.
     LockedTooDear,
+    /// 13: the outline has something that a text has no form for: a group whose price is above 0, a
+    /// lock, or a plate of more than 9 digits.
+    Unwritable {
+        /// The lowest such record, from 1.
+        record: u32,
+    },
     /// A number that these bindings do not know, from a later version of the library. A later
     /// version of the bindings may have a name for it.
     #[non_exhaustive]
@@ -109,6 +117,7 @@ impl Refusal {
             10 => Refusal::BadText,
             11 => Refusal::BadPairs,
             12 => Refusal::LockedTooDear,
+            13 => Refusal::Unwritable { record: place },
             _ => Refusal::Other { number, place },
         })
     }
@@ -137,6 +146,7 @@ impl Refusal {
             Refusal::BadText => 10,
             Refusal::BadPairs => 11,
             Refusal::LockedTooDear => 12,
+            Refusal::Unwritable { .. } => 13,
             Refusal::Other { number, .. } => number,
         }
     }
@@ -147,7 +157,8 @@ impl Refusal {
         match self {
             Refusal::FieldOutOfRange { record }
             | Refusal::BadLink { record }
-            | Refusal::DuplicatePlate { record } => Some(record),
+            | Refusal::DuplicatePlate { record }
+            | Refusal::Unwritable { record } => Some(record),
             Refusal::Other { place, .. } if place != 0 => Some(place),
             _ => None,
         }
@@ -173,13 +184,17 @@ impl fmt::Display for Refusal {
             }
             Refusal::TooManyTaxa => "the outline has more than 64 taxa",
             Refusal::DuplicatePlate { .. } => "an earlier taxon has the same plate",
-            Refusal::BufferTooShort => "marks, curve, work or outline is too short",
+            Refusal::BufferTooShort => "marks, curve, work, outline, text or pairs is too short",
             Refusal::BadText => "the text is no tree in Newick form, or has more than 16384 bytes",
             Refusal::BadPairs => {
                 "a taxon has no price or more than one, or a price is for a plate that no taxon has"
             }
             Refusal::LockedTooDear => {
                 "the locked taxa, with the headings above them, cost more than the page count"
+            }
+            Refusal::Unwritable { .. } => {
+                "it has a heading's price, a lock or a plate of more than 9 digits, for which a \
+                 text has no form"
             }
             Refusal::Other { number, .. } => {
                 return write!(f, "refusal {number}, which these bindings do not know");

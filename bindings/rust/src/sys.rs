@@ -4,9 +4,10 @@
 //! What each function gives and writes is said in `plates.h`. In short: pointers are not null (also
 //! where a length is 0), each points to as many elements as its length says and is aligned for
 //! them, and what is written overlaps nothing else. Nothing else is asked of the caller, whatever
-//! the outline or the text holds. A refusal leaves the lent buffers (`marks`, `curve`, `work`, and
-//! the `outline` of `plates_read`) as they were; `answer` and `place` carry the numbers given and
-//! are written in any case. Every number but 0 is a refusal, and later versions add some.
+//! the outline or the text holds. A refusal leaves the lent buffers (`marks`, `curve`, `work`, the
+//! `outline` of `plates_read`, and the `text` and `pairs` of `plates_write`) as they were; `answer`
+//! and `place` carry the numbers given and are written in any case. Every number but 0 is a
+//! refusal, and later versions add some.
 //!
 //! ```
 //! use plates::sys;
@@ -60,6 +61,26 @@ extern "C" {
         answer: *mut u32,
     ) -> u32;
 
+    /// Writes an outline as text and pairs of numbers, plate then price: gives 0 or the refusal's
+    /// number, and in any case writes the four numbers of `answer` (number, place, bytes, pairs).
+    /// Unless it refuses, it also writes the tree to the beginning of `text`, with no byte 0 behind
+    /// it, and the pairs to that of `pairs`, two numbers for each.
+    ///
+    /// # Safety
+    ///
+    /// `outline` can be read for `outline_len` bytes. `text`, `pairs` and `answer` can be written
+    /// for `text_len` bytes, `pairs_len` numbers and 4 numbers. None of the pointers is null, each
+    /// is aligned for its elements, and no two of the four overlap.
+    pub fn plates_write(
+        outline: *const u8,
+        outline_len: usize,
+        text: *mut u8,
+        text_len: usize,
+        pairs: *mut u32,
+        pairs_len: usize,
+        answer: *mut u32,
+    ) -> u32;
+
     /// Gives 0 or the number of the refusal of an outline, and writes its place, 0 if it is sound.
     ///
     /// # Safety
@@ -100,6 +121,12 @@ extern "C" {
         work_len: usize,
         answer: *mut u32,
     ) -> u32;
+}
+
+/// How many bytes of text always suffice for writing. The pairs need two numbers for each taxon.
+#[must_use]
+pub const fn written_len(records: usize, taxa: usize) -> usize {
+    10 * records + 8 * taxa
 }
 
 /// How many bytes of marks choosing needs.

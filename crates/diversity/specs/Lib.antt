@@ -2,6 +2,7 @@
 pub mod Behind
 pub mod Cases
 pub mod Diversity
+pub mod Order
 pub mod Headings
 pub mod Paths
 pub mod Search

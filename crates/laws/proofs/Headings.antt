@@ -1,27 +1,23 @@
 -- A set pays its own prices and the headings that it opens; where every heading is free, that is document 01's cost.
-use Prim.Native.Nat.{ℕ, zero, suc, _+_, _≤_}
+use Prim.Native.Nat.{ℕ, _+_, _≤_}
 use mathlib.Core.Path.{_≡_, refl, sym, _∙_}
 use mathlib.Core.Bool.{Bool, true, false, or-false}
-use mathlib.Core.List.{List, []}
+use mathlib.Core.List.{List}
 use native.Mathlib.Omega.{arith}
 use borrow.Author.Tests.{eqb-true}
 use Rattle.lists.specs.Lists.{pick, anywhere}
 use Rattle.outline.specs.Outline.{size, records, first, price, isTaxon}
-use Rattle.diversity.specs.Diversity.{chain, clade, chosen, within, cost}
+use Rattle.diversity.specs.Diversity.{clade, chosen, within, cost}
 use Rattle.diversity.specs.Behind.{IsSet}
 use Rattle.diversity.specs.Headings.{pricesChosen, opens, headingsOpened, FreeHeadings}
 use Rattle.laws.proofs.Sums.{pick-zero, total-add, total-ext}
+use Rattle.laws.proofs.Chains.{chain-none}
 use Rattle.laws.proofs.Marks.{group-unchosen}
-
-no-members : (k : ℕ) (o : List ℕ) → chain k o 0 ≡ []
-unfolding chain
-no-members zero o = refl
-no-members (suc k) o = refl
 
 -- at a taxon, what counts is whether it is chosen
 within-taxon : (o s : List ℕ) (r : ℕ) → isTaxon o r ≡ true → within o s r ≡ chosen s r
 unfolding within clade anywhere
-within-taxon o s r t = rw (eqb-true (first o r) 0 t, no-members (size o) o) (or-false (chosen s r))
+within-taxon o s r t = rw (eqb-true (first o r) 0 t, chain-none (size o) o) (or-false (chosen s r))
 
 -- the cost of a set of taxa: its prices, and the prices of the groups that have one of them below
 pub cost-opened : (o s : List ℕ) → IsSet o s → cost o s ≡ pricesChosen o s + headingsOpened o s

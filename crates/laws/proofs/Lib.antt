@@ -1,6 +1,7 @@
 -- Laws of the definitions, for the crates above.
 pub mod Best
 pub mod ByTree
+pub mod Chains
 pub mod FewTaxa
 pub mod Forest
 pub mod Free

@@ -131,7 +131,7 @@ occurs-most x a (suc n) = go (eqb x a) refl (occurs-before x (a + 1) n) (occurs-
     go true e before ih = let q = eqb-true x a e in omega (arith, ap one e, before (omega arith))
     go false e before ih = omega (arith, ap one e)
 
-occurs-once : (x a n : ℕ) → a ≤ x → x < a + n → occurs x (from a n) ≡ 1
+pub occurs-once : (x a n : ℕ) → a ≤ x → x < a + n → occurs x (from a n) ≡ 1
 unfolding total from
 occurs-once x a zero l u = absurd (omega arith)
 occurs-once x a (suc n) l u = go (eqb x a) refl (occurs-before x (a + 1) n) (λ l. occurs-once x (a + 1) n l (omega arith))

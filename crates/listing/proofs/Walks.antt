@@ -3,7 +3,6 @@ use Prim.Native.Nat.{ℕ, suc, _+_, _-_, _≤_, _<_}
 use mathlib.Core.Path.{_≡_, subst}
 use mathlib.Core.List.{List, [], _++_}
 use native.Mathlib.Omega.{arith}
-use lib.ListN.{length}
 use Rattle.lists.specs.Lists.{from}
 use Rattle.text.specs.Written.{LongEnough, Written}
 use Rattle.text.specs.Text.{texts}
@@ -36,9 +35,9 @@ module _ {f : ℕ → List ℕ} {k n at i to : ℕ} {before after : List ℕ} (w
     pub walking-fits : LongEnough to (f i) after
     walking-fits = left-fits (f i) _ next-left
 
-    pub walking-goes : {next : ℕ} {again : List ℕ} → Written to (f i) after again next → length again ≡ length after
+    pub walking-goes : {next : ℕ} {again : List ℕ} → Written to (f i) after again next
         → Walking f k n at before (i + 1) next again
-    walking-goes d same = record { low = omega (arith, w .low); left = left-goes (f i) _ next-left d same }
+    walking-goes d = record { low = omega (arith, w .low); left = left-goes (f i) _ next-left d }
 
   pub walking-ends : k + n ≤ i → Written at (texts f (from k n)) before after to
   walking-ends none = left-ends (subst (λ t. Left at (texts f (from k n)) before to t after) (texts-none f i (k + n) none) (w .left))

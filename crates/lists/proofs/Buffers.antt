@@ -6,7 +6,7 @@ use native.Mathlib.Omega.{arith}
 use native.Mathlib.Numerals.{add-one}
 use lib.ListN.{length, getD, take, drop, set, length-append, length-drop, replicate, length-replicate, take-append-drop, drop-of-length-le}
 use lib.ListN.{List·getD-append}
-use lib.Seq.{length-take-le, take-length, drop-at}
+use lib.Seq.{length-take-le, take-length, take-at, drop-at}
 use Rattle.lists.specs.Lists.{over}
 
 -- one number more from the left, and from the right
@@ -26,7 +26,15 @@ over-long : (text buffer : List ℕ) → length text ≤ length buffer → lengt
 unfolding over
 over-long text buffer h = simp (length-append, length-drop) (omega arith)
 
--- what is written over a buffer, read again
+-- what was written, what is past it, and each number of what was written
+pub over-taken : (text buffer : List ℕ) (n : ℕ) → length text ≡ n → take n (over text buffer) ≡ text
+unfolding over
+over-taken text buffer n e = take-at text (drop (length text) buffer) n e
+
+pub over-past : (text buffer : List ℕ) (n : ℕ) → length text ≡ n → drop n (over text buffer) ≡ drop n buffer
+unfolding over
+over-past text buffer n e = drop-at text (drop (length text) buffer) n e ∙ ap (λ k. drop k buffer) e
+
 pub over-at : (text buffer : List ℕ) (i : ℕ) → i < length text → getD (over text buffer) i 0 ≡ getD text i 0
 unfolding over
 over-at text buffer i h = List·getD-append text (drop (length text) buffer) 0 i h

@@ -3,11 +3,13 @@
 use Prim.Native.Nat.{ℕ, zero, suc, _+_, _*_, _-_, _≤_, _<_}
 use mathlib.Core.Path.{_≡_, refl, ap, _∙_}
 use mathlib.Core.Bool.{Bool, true, false, not}
-use mathlib.Core.List.{List, [], _∷_}
+use mathlib.Core.List.{List, [], _∷_, _++_}
+use native.Mathlib.Nat.{mul-add}
 use native.Mathlib.Omega.{arith}
 use lib.Dec.{eqb}
 use borrow.Author.Tests.{ne-eqb, eqb-true, eqb-false, not-false}
 use Rattle.lists.specs.Lists.{from, anywhere, total, lowest}
+use Rattle.lists.proofs.Bools.{both-false}
 
 -- what is left to pass at r
 abbrev pub rest : ℕ → ℕ → List ℕ
@@ -24,10 +26,11 @@ rest-none : (r n : ℕ) → n < r → rest r n ≡ []
 unfolding from
 rest-none r n h = let e : n + 1 - r ≡ 0 = omega arith in rw e
 
--- the sum so far, with the sum of what is left, is the whole sum; it is at most 2 for each number passed, so it does not overflow
-pub record Summing (f : ℕ → ℕ) (n sum r : ℕ) : Type 0 where
+-- the sum so far, with the sum of what is left, is the whole sum; it is at most so much for each number passed, so that it does not
+-- overflow
+pub record Summing (most : ℕ) (f : ℕ → ℕ) (n sum r : ℕ) : Type 0 where
   pub low : 1 ≤ r
-  pub small : sum ≤ 2 * (r - 1)
+  pub small : sum ≤ most * (r - 1)
   pub whole : sum + total f (rest r n) ≡ total f (from 1 n)
 
 -- the test holds at none of the numbers passed: the lowest of what is left is the lowest of all
@@ -35,19 +38,21 @@ pub record Seeking (p : ℕ → Bool) (n r : ℕ) : Type 0 where
   pub low : 1 ≤ r
   pub whole : lowest p (rest r n) ≡ lowest p (from 1 n)
 
-module _ (f : ℕ → ℕ) (n : ℕ) where
-  pub summing-starts : Summing f n 0 1
+module _ {most : ℕ} (f : ℕ → ℕ) (n : ℕ) where
+  pub summing-starts : Summing most f n 0 1
   summing-starts = record { low = omega arith; small = omega arith; whole = rw rest-all (omega arith) }
 
-  pub summing-goes : {sum r v : ℕ} → Summing f n sum r → r ≤ n → v ≡ f r → v ≤ 2 → Summing f n (sum + v) (r + 1)
+  pub summing-goes : {sum r v : ℕ} → Summing most f n sum r → r ≤ n → v ≡ f r → v ≤ most → Summing most f n (sum + v) (r + 1)
   summing-goes {sum} {r} {v} s h e b =
+      let passed : r + 1 - 1 ≡ r - 1 + 1 = omega (arith, s .low) in
+      let more : most * (r + 1 - 1) ≡ most * (r - 1) + most * 1 = ap (λ k. most * k) passed ∙ mul-add most (r - 1) 1 in
       record {
         low = omega arith;
-        small = omega arith;
+        small = omega (arith, s .small);
         whole = let step : f r + total f (rest (r + 1) n) ≡ total f (rest r n) = unfold total in rw (rest-more r n h) in omega arith;
       }
 
-  pub summing-ends : {sum r : ℕ} → Summing f n sum r → n < r → sum ≡ total f (from 1 n)
+  pub summing-ends : {sum r : ℕ} → Summing most f n sum r → n < r → sum ≡ total f (from 1 n)
   summing-ends {sum} {r} s h = let none : total f (rest r n) ≡ 0 = unfold total in rw (rest-none r n h) in omega arith
 
 module _ (p : ℕ → Bool) (n : ℕ) where
@@ -141,3 +146,18 @@ anywhere-lowest p n = anywhere-from p 1 n (omega arith)
 
 pub anywhere-none : (p : ℕ → Bool) (n : ℕ) → anywhere p (from 1 n) ≡ false → (r : ℕ) → 1 ≤ r → r ≤ n → p r ≡ false
 anywhere-none p n e = lowest-none p n (eqb-true _ _ (not-false _ (anywhere-lowest p n ∙ e)))
+
+-- the numbers from k on, in two parts
+pub from-both : (k a b : ℕ) → from k (a + b) ≡ from k a ++ from (k + a) b
+unfolding from
+from-both k zero b = let e : 0 + b ≡ b = omega arith in let d : k + 0 ≡ k = omega arith in rw (e, d)
+from-both k (suc a) b =
+    let e : suc a + b ≡ suc (a + b) = omega arith in
+    let d : k + suc a ≡ k + 1 + a = omega arith in
+    rw (e, d) (ap (λ xs. k ∷ xs) (from-both (k + 1) a b))
+
+-- a test that holds in neither of two parts holds nowhere
+pub nowhere-both : (p : ℕ → Bool) (xs ys : List ℕ) → anywhere p xs ≡ false → anywhere p ys ≡ false → anywhere p (xs ++ ys) ≡ false
+unfolding anywhere
+nowhere-both p [] ys e f = f
+nowhere-both p (x ∷ xs) ys e f = let parts = both-false (p x) (anywhere p xs) e in rw (parts .0) (nowhere-both p xs ys (parts .1) f)

@@ -1,8 +1,8 @@
 -- Tests, lists of numbers, and buffers that are written over: the few functions that the other definitions share.
-use Prim.Native.Nat.{ℕ, zero, suc, _+_}
+use Prim.Native.Nat.{ℕ, zero, suc, _+_, _<_}
 use mathlib.Core.Bool.{Bool, true, false, _||_}
 use mathlib.Core.List.{List, [], _∷_, _++_}
-use lib.ListN.{length, take, drop}
+use lib.ListN.{length, getD, take, drop}
 
 -- the first of two where a test holds, else the second
 abbrev pub pick {ℓ} : {A : Type ℓ} → Bool → A → A → A
@@ -40,3 +40,7 @@ over text buffer = text ++ drop (length text) buffer
 -- numbers written in a buffer at a place: what stands before the place stays, and they are written over the rest
 unfoldable pub overAt : ℕ → List ℕ → List ℕ → List ℕ
 overAt at text buffer = take at buffer ++ over text (drop at buffer)
+
+-- a list of bytes
+pub record Bytes (xs : List ℕ) : Type 0 where
+  pub small : (i : ℕ) → getD xs i 0 < 256

@@ -11,7 +11,7 @@ use Rattle.lists.specs.Lists.{pick, one}
 use Rattle.lists.proofs.Bools.{byte-one, one-le, pick-most}
 use Rattle.outline.specs.Outline.{size, next, first, branch, price, records}
 use Rattle.outline.specs.Refusals.{mostRecords}
-use Rattle.outline.specs.Kept.{Later, Kept}
+use Rattle.outline.specs.Kept.{Kept}
 use Rattle.diversity.specs.Diversity.{chosen, rooted, unrooted, diversity, cost, chosenTaxa}
 use Rattle.laws.specs.Forest.{Forest, node, sumIn, tree}
 use Rattle.laws.proofs.Sums.{positive, positive-true, total-most}
@@ -115,17 +115,6 @@ module _ {o : List ℕ} {r : ℕ} {s : List ℕ} {all : ℕ} {members : Measure}
   clade-measured e p d = record { taxa-is = omega (arith, below-is); cost-is = cost-counted e p; diversity-is = diversity-counted e d }
 
 -- ---- a chain
--- how many records are left from r on: fewer at each link
-unfoldable pub left : List ℕ → ℕ → ℕ
-left o zero = 0
-left o (suc r) = size o - r
-
-pub left-less : (o : List ℕ) (r q : ℕ) → 0 < r → r ≤ size o → Later o r q → left o q < left o r
-unfolding left
-left-less o (suc r) zero p m h = omega arith
-left-less o (suc r) (suc q) p m h = omega (arith, h .later (omega arith), h .most)
-left-less o zero q p m h = absurd (omega arith)
-
 module _ {o : List ℕ} {s : List ℕ} {all : ℕ} where
   pub no-chain : ChainMeasured o 0 s all (record { taxa = 0; cost = 0; diversity = 0 })
   no-chain = rw (tree-zero o) (record { taxa-is = refl; cost-is = refl; diversity-is = refl })

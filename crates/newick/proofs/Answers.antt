@@ -24,7 +24,7 @@ use Rattle.newick.specs.Answer.{call, Reply, told, rowsFor, judged, repl
 use Rattle.newick.specs.Inner.{TreeRead, tree-bad, tree-many, tree-read, platesOf, Whole, placeRows, Placed}
 use Rattle.newick.specs.declared.reader.Answer.{Answer}
 use Rattle.newick.specs.declared.reader.Draft.{Draft}
-use Rattle.newick.proofs.Plates.{layout-plates}
+use Rattle.newick.proofs.Regrown.{layout-plates}
 use Rattle.newick.proofs.Ranges.{spells-in-range}
 use Rattle.newick.proofs.Rows.{rows-length}
 use Rattle.newick.proofs.Spelling.{parsed-sound}

@@ -3,13 +3,13 @@ use Prim.Native.Nat.{ℕ, _*_}
 use mathlib.Core.Path.{_≡_, refl, sym, ap, subst, _∙_}
 use mathlib.Core.Logic.{_↔_}
 use mathlib.Core.Bool.{Bool, true, false, false≢true}
-use mathlib.Core.List.{List, _++_}
+use mathlib.Core.List.{List}
 use native.Mathlib.Omega.{arith}
 use lib.Dec.{eqb, ltb}
 use lib.ListN.{length, take, drop}
-use lib.Seq.{take-at, drop-at}
 use borrow.Author.Tests.{eqb-true, ne-eqb, ltb-false}
 use Rattle.lists.specs.Lists.{pick, over}
+use Rattle.lists.proofs.Buffers.{over-taken, over-past}
 use Rattle.refusals.specs.Refusals.{Told, passed, refusal, row}
 use Rattle.refusals.specs.Table.{FirstRow, here, later, fails, Gives, gives-none, gives-first}
 use Rattle.refusals.proofs.Refusals.{refusal-numbered, refusal-determined, both-pass, row-fails}
@@ -105,21 +105,21 @@ module _ (t : Tree part) (pairs : List ℕ) (room : ℕ) (z : rowsFor (tree t) p
 
 passed-given : (c : Call) {r : Reply} {outline : List ℕ} → Answered c r outline → (t : Tree part) → parsed (c .text) ≡ tree t
     → rowsFor (tree t) (c .pairs) (length (c .outline)) .number ≡ 0 → TreeGiven c r outline
-unfolding judged reply outlineAfter over
+unfolding judged reply outlineAfter
 passed-given c {r} {outline} x t e z =
     let o = layout (priceIn (c .pairs)) t in
     let pass = rows-pass t (c .pairs) (length (c .outline)) z in
     let records-are : r .records ≡ count t = rw (x .told-reply, e, z) in
-    let written : outline ≡ o ++ drop (length o) (c .outline) = x .outline-written ∙ rw (e, z) in
+    let written : outline ≡ over o (c .outline) = x .outline-written ∙ rw (e, z) in
     let long : length o ≡ 16 * r .records = omega (arith, layout-length (priceIn (c .pairs)) t) in
-    let begins : take (16 * r .records) outline ≡ o = ap (take (16 * r .records)) written ∙ take-at o _ (16 * r .records) long in
+    let begins : take (16 * r .records) outline ≡ o = ap (take (16 * r .records)) written ∙ over-taken o (c .outline) (16 * r .records) long in
     record {
       tree = t;
       spelled = parsed-sound t (c .text) e;
       only = λ u s. one-tree s (parsed-sound t (c .text) e);
       records-are = records-are;
       begins = begins;
-      rest = ap (drop (16 * r .records)) written ∙ drop-at o _ (16 * r .records) long ∙ ap (λ n. drop n (c .outline)) long;
+      rest = ap (drop (16 * r .records)) written ∙ over-past o (c .outline) (16 * r .records) long;
       accepted = rw begins (layout-accepted t (c .pairs) (length (c .outline)) z);
       one-pair = pairs-once (plates t) (c .pairs) (pass .1);
       its-price = λ p i. priced (c .pairs) p (pairs-once (plates t) (c .pairs) (pass .1) p i);

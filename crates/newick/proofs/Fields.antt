@@ -1,12 +1,13 @@
 -- The fields of a record, written into a buffer one after the other.
 use Prim.Native.Nat.{ℕ, _+_, _/_, _%_, _≤_}
 use mathlib.Core.Path.{_≡_, refl, ap, _∙_}
-use mathlib.Core.List.{List, [], _∷_, _++_}
+use mathlib.Core.List.{List, _++_}
 use native.Mathlib.Omega.{arith}
 use lib.ListN.{length, set}
 use Rattle.lists.specs.Lists.{overAt}
-use Rattle.lists.proofs.Pieces.{over-one, over-length, over-both}
+use Rattle.lists.proofs.Pieces.{over-both}
 use Rattle.outline.specs.Outline.{bytes, recordBytes}
+use Rattle.text.proofs.Writing.{written-two}
 
 -- what is written next
 over-next : (at to : ℕ) (s t p : List ℕ) {q r : List ℕ} → at ≤ length p → to ≡ at + length s → q ≡ overAt at s p → r ≡ overAt to t q
@@ -16,15 +17,10 @@ over-next at to s t p h z e f = f ∙ ap (overAt to t) e ∙ over-both at to s t
 -- two bytes
 pub short-written : (at v : ℕ) (p : List ℕ) → at + 2 ≤ length p → set (set p at (v % 256)) (at + 1) (v / 256 % 256) ≡ overAt at (bytes 2 v) p
 unfolding bytes
-short-written at v p h =
-    let low = v % 256 ∷ [] in
-    let long : length (overAt at low p) ≡ length p = over-length at low p (omega arith) in
-    ap (λ q. set q (at + 1) (v / 256 % 256)) (over-one at (v % 256) p (omega arith))
-    ∙ over-one (at + 1) (v / 256 % 256) (overAt at low p) (omega arith)
-    ∙ over-both at (at + 1) low (v / 256 % 256 ∷ []) p (omega arith) refl
+short-written at v p h = written-two at (v % 256) (v / 256 % 256) p h .buffer-is
 
 -- four bytes are twice two
-bytes-halves : (v : ℕ) → bytes 2 (v % 65536) ++ bytes 2 (v / 65536) ≡ bytes 4 v
+pub bytes-halves : (v : ℕ) → bytes 2 (v % 65536) ++ bytes 2 (v / 65536) ≡ bytes 4 v
 unfolding bytes
 bytes-halves v =
     let high : v / 65536 ≡ v / 256 / 256 = omega arith in

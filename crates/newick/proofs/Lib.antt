@@ -1,6 +1,8 @@
 -- Laws of trees as text.
+pub mod Along
 pub mod Answers
 pub mod Bounds
+pub mod Canonical
 pub mod Cursors
 pub mod Demands
 pub mod Endings
@@ -8,13 +10,23 @@ pub mod Fields
 pub mod Grown
 pub mod Lengths
 pub mod Meeting
+pub mod Ordered
+pub mod OwnBytes
 pub mod Pairing
 pub mod Parts
-pub mod Plates
 pub mod Ranges
+pub mod Plain
+pub mod Priced
+pub mod Records
+pub mod Regrown
+pub mod RoundTrip
 pub mod Rows
 pub mod Scanning
 pub mod Signs
 pub mod Spelling
 pub mod Tokens
+pub mod Traced
 pub mod Written
+pub mod WriteAnswers
+pub mod WriteBounds
+pub mod WriteDemands

@@ -22,7 +22,7 @@ use Rattle.newick.specs.Inner.{platesIn, platesOf, unpaired, unmatched}
 use Rattle.newick.specs.Demands.{In, here, there, Pair, first-pair, later-pair, BadPairs}
 
 -- the pair at a place
-pair-at : (pairs : List ℕ) (i : ℕ) → i + 1 < length pairs → drop i pairs ≡ getD pairs i 0 ∷ getD pairs (i + 1) 0 ∷ drop (i + 2) pairs
+pub pair-at : (pairs : List ℕ) (i : ℕ) → i + 1 < length pairs → drop i pairs ≡ getD pairs i 0 ∷ getD pairs (i + 1) 0 ∷ drop (i + 2) pairs
 pair-at pairs i h =
     let e : suc i ≡ i + 1 = sym (add-one i) in
     let f : suc (i + 1) ≡ i + 2 = omega arith in
@@ -221,7 +221,7 @@ unfolding paired
 pair-of p (q ∷ (c ∷ rest)) here = (c, first-pair)
 pair-of p (q ∷ (c ∷ rest)) (there i) = let (d, x) = pair-of p rest i in (d, later-pair x)
 
-in-paired : {p c : ℕ} {pairs : List ℕ} → Pair p c pairs → In p (paired pairs)
+pub in-paired : {p c : ℕ} {pairs : List ℕ} → Pair p c pairs → In p (paired pairs)
 unfolding paired
 in-paired first-pair = here
 in-paired (later-pair x) = there (in-paired x)

@@ -41,7 +41,7 @@ module _ (l : List ℕ) (link : ℕ) where
 pub record Tallying (o : List ℕ) (n r : ℕ) (counts : List ℕ) : Type 0 where
   pub low : 1 ≤ r
   pub long : length counts ≡ numbers
-  pub each : (q : ℕ) → q < numbers → Summing (naming o q) n (getD counts q 0) r
+  pub each : (q : ℕ) → q < numbers → Summing 2 (naming o q) n (getD counts q 0) r
 
 module _ (o : List ℕ) where
   pub tallying-starts : (n : ℕ) → Tallying o n 1 (replicate numbers 0)

@@ -1,5 +1,5 @@
 -- An outline that the check accepts keeps every rule.
-use Prim.Native.Nat.{ℕ, _*_, _%_, _≤_, _<_}
+use Prim.Native.Nat.{ℕ, zero, suc, _-_, _*_, _%_, _≤_, _<_}
 use mathlib.Core.Path.{_≡_, refl, sym, _∙_}
 use mathlib.Core.Bool.{Bool, true, false, _||_, not, false≢true}
 use mathlib.Core.List.{List}
@@ -124,3 +124,14 @@ rows-kept o e d =
 pub accepted-kept : (o : List ℕ) → isAccepted o ≡ true → Kept o
 unfolding checked
 accepted-kept o e = let rows = both-pass _ _ (eqb-true _ _ e) in rows-kept o (rows .0) (rows .1)
+
+-- how many records are left from r on, none for 0: fewer at each link, so that a recursion over the links ends
+unfoldable pub left : List ℕ → ℕ → ℕ
+left o zero = 0
+left o (suc r) = size o - r
+
+pub left-less : (o : List ℕ) (r q : ℕ) → 0 < r → r ≤ size o → Later o r q → left o q < left o r
+unfolding left
+left-less o (suc r) zero p m h = omega arith
+left-less o (suc r) (suc q) p m h = omega (arith, h .later (omega arith), h .most)
+left-less o zero q p m h = absurd (omega arith)

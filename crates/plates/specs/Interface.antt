@@ -5,6 +5,7 @@ use mathlib.Core.List.{List}
 use lib.ListN.{length, getD}
 use Rattle.choice.specs.Answer as choose
 use Rattle.newick.specs.Answer as read
+use Rattle.newick.specs.WriteAnswer as write
 
 -- what a function gives with its `answer`: that has so many numbers and no more, the first of them is given, and they answer the
 -- call
@@ -35,3 +36,12 @@ readIn answer = record { number = getD answer 0 0; place = getD answer 1 0; reco
 -- a call is answered by them as `read` answers it
 abbrev pub TextRead : read.Call → ℕ → List ℕ → List ℕ → Type 0
 TextRead c number answer outline = Given 3 readIn (λ r. read.Answered c r outline) number answer
+
+-- the four numbers of writing
+abbrev pub writtenIn : List ℕ → write.Reply
+writtenIn answer =
+    record { number = getD answer 0 0; place = getD answer 1 0; bytes = getD answer 2 0; pairs = getD answer 3 0 }
+
+-- a call is answered by them as `write` answers it
+abbrev pub TextWritten : write.Call → ℕ → List ℕ → List ℕ → List ℕ → Type 0
+TextWritten c number answer text pairs = Given 4 writtenIn (λ r. write.Answered c r text pairs) number answer

@@ -1,16 +1,19 @@
-// The C interface: checking an outline, finding a plate's record, choosing, and reading a tree from text, over memory that the
-// caller lends.
+// The C interface: checking an outline, finding a plate's record, choosing, reading a tree from text and writing it as
+// text, over memory that the caller lends.
 // include/plates.h declares these functions.
 ghost use mathlib.Core.Path.{_≡_};
 ghost use Rattle.refusals.specs.Refusals.{tells};
 ghost use Rattle.outline.specs.Refusals.{checked, foundAt};
 ghost use Rattle.newick.specs.Answer.{call as reading};
+ghost use Rattle.newick.specs.WriteAnswer.{call as writing};
 ghost use Rattle.choice.specs.Answer.{call};
-ghost use Rattle.plates.specs.Interface.{Chosen, TextRead};
+ghost use Rattle.plates.specs.Interface.{Chosen, TextRead, TextWritten};
 use choice::Answer;
 use choice::choose;
-use newick::Answer as Reading;
 use newick::read;
+use newick::reader::Answer as Reading;
+use newick::write;
+use newick::writer::Answer as Writing;
 use outline::check;
 use outline::find_record;
 use refusals::verdict::Verdict;
@@ -93,6 +96,35 @@ pub extern "C" fn plates_read(
         Reading::Refused(refusal) => {
             let number = number_of(refusal);
             *answer = [number, place_of(refusal) as u32, 0];
+            number
+        }
+    }
+}
+
+// Writes an outline as text and price pairs, and writes number, place and the counts of bytes and of pairs; the number is given as
+// well.
+#[no_mangle]
+pub extern "C" fn plates_write(
+    outline: &[u8],
+    text: &mut [u8],
+    pairs: &mut [u32],
+    answer: &mut [u32; 4],
+) -> u32
+    ensures { λ n. ⌜ TextWritten
+        (writing (now (outline .entry)) (now (text .entry)) (now (pairs .entry)))
+        n (now (answer .exit)) (now (text .exit)) (now (pairs .exit)) ⌝ }
+{
+    match write(outline, text, pairs) {
+        Writing::Written {
+            bytes,
+            pairs: count,
+        } => {
+            *answer = [0, 0, bytes as u32, count as u32];
+            0
+        }
+        Writing::Refused(refusal) => {
+            let number = number_of(refusal);
+            *answer = [number, place_of(refusal) as u32, 0, 0];
             number
         }
     }

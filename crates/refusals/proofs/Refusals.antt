@@ -23,6 +23,7 @@ refusal-numbered Refusal.BufferTooShort = omega arith
 refusal-numbered Refusal.BadText = omega arith
 refusal-numbered Refusal.BadPairs = omega arith
 refusal-numbered Refusal.LockedTooDear = omega arith
+refusal-numbered (Refusal.Unwritable r) = omega arith
 
 pub refusal-not-zero : (e : Refusal) → eqb (refusal e .number) 0 ≡ false
 refusal-not-zero e = ne-eqb (refusal e .number) 0 (λ z. omega (arith, refusal-numbered e))
@@ -40,7 +41,8 @@ refusalAt t =
     (pick (eqb (t .number) 8) (Refusal.DuplicatePlate (t .place))
     (pick (eqb (t .number) 9) Refusal.BufferTooShort
     (pick (eqb (t .number) 10) Refusal.BadText
-    (pick (eqb (t .number) 11) Refusal.BadPairs Refusal.LockedTooDear))))))))))
+    (pick (eqb (t .number) 11) Refusal.BadPairs
+    (pick (eqb (t .number) 12) Refusal.LockedTooDear (Refusal.Unwritable (t .place)))))))))))))
 
 refusal-at : (e : Refusal) → refusalAt (refusal e) ≡ e
 unfolding refusalAt
@@ -56,6 +58,7 @@ refusal-at Refusal.BufferTooShort = refl
 refusal-at Refusal.BadText = refl
 refusal-at Refusal.BadPairs = refl
 refusal-at Refusal.LockedTooDear = refl
+refusal-at (Refusal.Unwritable r) = refl
 
 -- the number and the place determine the refusal
 pub refusal-determined : (d e : Refusal) → refusal d ≡ refusal e → d ≡ e

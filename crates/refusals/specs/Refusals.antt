@@ -33,6 +33,7 @@ refusal Refusal.BufferTooShort = tells 9 0  -- space
 refusal Refusal.BadText = tells 10 0
 refusal Refusal.BadPairs = tells 11 0
 refusal Refusal.LockedTooDear = tells 12 0
+refusal (Refusal.Unwritable r) = tells 13 r
 
 -- and of what a judge answers
 abbrev pub told : Verdict → Told

@@ -16,6 +16,7 @@ pub enum Refusal {
     BadText,
     BadPairs,
     LockedTooDear,
+    Unwritable(usize),
 }
 
 pub enum Verdict {
@@ -40,6 +41,7 @@ pub fn number_of(refusal: Refusal) -> u32
         Refusal::BadText => 10,
         Refusal::BadPairs => 11,
         Refusal::LockedTooDear => 12,
+        Refusal::Unwritable(_) => 13,
     }
 }
 
@@ -60,5 +62,6 @@ pub fn place_of(refusal: Refusal) -> usize
         Refusal::BadText => 0,
         Refusal::BadPairs => 0,
         Refusal::LockedTooDear => 0,
+        Refusal::Unwritable(r) => r,
     }
 }

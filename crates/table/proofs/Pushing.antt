@@ -1,5 +1,5 @@
 -- The steps of pushing a row through the chain of a record: what each call asks, and in the end what the push leaves.
-use Prim.Native.Nat.{ℕ, zero, suc, _+_, _*_, _-_, _<_, _≤_}
+use Prim.Native.Nat.{ℕ, _+_, _*_, _-_, _<_, _≤_}
 use mathlib.Core.Path.{_≡_, refl, sym, ap, ap₂, _∙_}
 use mathlib.Core.Logic.{_⊎_, inl, inr, ⊎-elim}
 use mathlib.Core.Bool.{Bool, true, false}
@@ -9,8 +9,7 @@ use lib.Dec.{eqb}
 use lib.ListN.{length}
 use borrow.Author.Tests.{eq-eqb, ne-eqb}
 use Rattle.lists.specs.Lists.{pick}
-use Rattle.outline.specs.Outline.{size, first, branch, price, isTaxon}
-use Rattle.outline.specs.Kept.{Later}
+use Rattle.outline.specs.Outline.{first, branch, price, isTaxon}
 use Rattle.laws.specs.Candidate.{Cand, betterOf}
 use Rattle.laws.specs.Forest.{tree}
 use Rattle.laws.specs.Numbers.{weight}
@@ -322,14 +321,3 @@ module _ {o : List ℕ} {r after to w : ℕ} {l₀ : List ℕ} (ready : Ready o 
               v .same k (λ e. q (a .positive) (omega arith)) ∙ h₃ .same k (λ e. omega (arith, p (a .positive))) (λ e. q (a .positive))
               ∙ below₂ k (p (a .positive));
         }
-
--- ---- how many records are left from r on: fewer at each link
-unfoldable pub left : List ℕ → ℕ → ℕ
-left o zero = 0
-left o (suc r) = size o - r
-
-pub left-less : (o : List ℕ) (r q : ℕ) → 0 < r → r ≤ size o → Later o r q → left o q < left o r
-unfolding left
-left-less o (suc r) zero p m h = omega arith
-left-less o (suc r) (suc q) p m h = omega (arith, h .later (omega arith), h .most)
-left-less o zero q p m h = absurd (omega arith)

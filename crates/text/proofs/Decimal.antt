@@ -1,11 +1,12 @@
--- The decimal digits of a number: those that `io::decimal` gives, and how many at most.
+-- The decimal digits of a number: those that `io::decimal` gives, by a tenth of the number, and how many at most.
 use Prim.Native.Nat.{ℕ, zero, suc, _+_, _*_, _-_, _/_, _%_, _^_, _≤_, _<_}
-use mathlib.Core.Path.{_≡_, refl, _∙_}
+use mathlib.Core.Path.{_≡_, refl, sym, ap, subst, _∙_}
 use mathlib.Core.Bool.{Bool, true, false}
-use mathlib.Core.List.{[], _∷_, _++_}
+use mathlib.Core.List.{List, [], _∷_, _++_}
 use native.Mathlib.Nat.{pow-succ', one-le-pow}
+use native.Mathlib.Numerals.{add-one}
 use native.Mathlib.Omega.{arith}
-use lib.ListN.{length, length-append}
+use lib.ListN.{length, getD, length-append}
 use lib.Dec.{ltb}
 use borrow.Author.Tests.{lt-ltb, le-ltb, ltb-true, ltb-false}
 use Rattle.io.specs.Digits.{digits, Fewest}
@@ -48,6 +49,58 @@ spelled (suc (suc k)) (suc depth) n h f =
 pub decimal-spelled : (k n : ℕ) → Fewest 10 1 n k → digits 10 k n ≡ decimal n
 unfolding decimal
 decimal-spelled k n f = spelled k (n + 1) n (omega arith) f
+
+-- enough depth is enough
+enough : (d e n : ℕ) → n < d → n < e → digitsIn d n ≡ digitsIn e n
+enough zero e n h k = absurd (omega arith)
+enough (suc d) zero n h k = absurd (omega arith)
+enough (suc d) (suc e) n h k = go (ltb n 10) refl (enough d e (n / 10))
+  where
+    go : (b : Bool) → ltb n 10 ≡ b → (n / 10 < d → n / 10 < e → digitsIn d (n / 10) ≡ digitsIn e (n / 10)) → digitsIn (suc d) n ≡ digitsIn (suc e) n
+    go true t ih = one-digit d n (ltb-true n 10 t) ∙ sym (one-digit e n (ltb-true n 10 t))
+    go false t ih =
+        let many = ltb-false n 10 t in
+        more-digits d n many ∙ rw (ih (omega arith) (omega arith)) (sym (more-digits e n many))
+
+-- a digit alone, or the digits of a tenth and the last one
+pub decimal-one : (n : ℕ) → n < 10 → decimal n ≡ (48 + n) ∷ []
+unfolding decimal
+decimal-one n h = ap (λ d. digitsIn d n) (add-one n) ∙ one-digit n n h
+
+pub decimal-more : (n : ℕ) → 10 ≤ n → decimal n ≡ decimal (n / 10) ++ ((48 + n % 10) ∷ [])
+unfolding decimal
+decimal-more n h =
+    ap (λ d. digitsIn d n) (add-one n) ∙ more-digits n n h
+    ∙ ap (λ ds. ds ++ ((48 + n % 10) ∷ [])) (enough n (n / 10 + 1) (n / 10) (omega arith) (omega arith))
+
+-- what holds of a digit alone, and of a tenth's digits and a last one, holds of every number's digits
+pub decimal-ind : (P : ℕ → List ℕ → Type 0) → ((n : ℕ) → n < 10 → P n ((48 + n) ∷ []))
+    → ((n : ℕ) → 10 ≤ n → P (n / 10) (decimal (n / 10)) → P n (decimal (n / 10) ++ ((48 + n % 10) ∷ []))) → (n : ℕ) → P n (decimal n)
+decimal-ind P alone more n = go (n + 1) n (omega arith)
+  where
+    go : (depth n : ℕ) → n < depth → P n (decimal n)
+    go zero n h = absurd (omega arith)
+    go (suc depth) n h = by (ltb n 10) refl (go depth (n / 10))
+      where
+        by : (b : Bool) → ltb n 10 ≡ b → (n / 10 < depth → P (n / 10) (decimal (n / 10))) → P n (decimal n)
+        by true t ih = let few = ltb-true n 10 t in subst (P n) (sym (decimal-one n few)) (alone n few)
+        by false t ih =
+            let many = ltb-false n 10 t in
+            subst (P n) (sym (decimal-more n many)) (more n many (ih (omega arith)))
+
+-- there is a digit
+pub decimal-some : (n : ℕ) → 1 ≤ length (decimal n)
+decimal-some = decimal-ind (λ n ds. 1 ≤ length ds) (λ n h. omega arith) (λ n h ih. rw length-append (omega arith))
+
+-- and none in front of others is 0
+pub decimal-leads : (n : ℕ) → 1 ≤ n → 49 ≤ getD (decimal n) 0 0
+decimal-leads =
+    decimal-ind (λ n ds. 1 ≤ n → 49 ≤ getD ds 0 0) (λ n h some. omega arith)
+    (λ n h ih some. omega (arith, ih (omega arith), front (decimal (n / 10)) ((48 + n % 10) ∷ []) (decimal-some (n / 10))))
+  where
+    front : (s t : List ℕ) → 1 ≤ length s → getD (s ++ t) 0 0 ≡ getD s 0 0
+    front [] t h = absurd (omega arith)
+    front (x ∷ s) t h = refl
 
 -- a number below 10 to the power k has at most k digits
 most-digits : (k depth n : ℕ) → n < 10 ^ suc k → length (digitsIn depth n) ≤ suc k

@@ -36,16 +36,16 @@ module _ {at i to : ℕ} {ns before after : List ℕ} (l : Lining at ns before i
     blank-fits = omega (arith, left-fits (blank ∷ []) _ blank-left)
 
     -- the blank is written
-    module _ {next : ℕ} {buffer : List ℕ} (b : Written to (blank ∷ []) after buffer next) (same : length buffer ≡ length after) where
+    module _ {next : ℕ} {buffer : List ℕ} (b : Written to (blank ∷ []) after buffer next) where
       number-left : Left at (others ns) before next (decimal (getD ns i 0) ++ others (drop (i + 1) ns)) buffer
-      number-left = left-goes (blank ∷ []) _ blank-left b same
+      number-left = left-goes (blank ∷ []) _ blank-left b
 
       pub number-fits : LongEnough next (decimal (getD ns i 0)) buffer
       number-fits = left-fits (decimal (getD ns i 0)) _ number-left
 
-      pub lining-goes : {last : ℕ} {again : List ℕ} → Written next (decimal (getD ns i 0)) buffer again last → length again ≡ length buffer
+      pub lining-goes : {last : ℕ} {again : List ℕ} → Written next (decimal (getD ns i 0)) buffer again last
           → Lining at ns before (i + 1) last again
-      lining-goes d same′ = record { high = omega arith; left = left-goes (decimal (getD ns i 0)) _ number-left d same′ }
+      lining-goes d = record { high = omega arith; left = left-goes (decimal (getD ns i 0)) _ number-left d }
 
   module _ (none : length ns ≤ i) where
     end-left : Left at (others ns) before to ((lineEnd ∷ []) ++ []) after
@@ -54,9 +54,9 @@ module _ {at i to : ℕ} {ns before after : List ℕ} (l : Lining at ns before i
     pub end-fits : to < length after
     end-fits = omega (arith, left-fits (lineEnd ∷ []) [] end-left)
 
-    pub lining-ends : {next : ℕ} {exit : List ℕ} → Written to (lineEnd ∷ []) after exit next → length exit ≡ length after
+    pub lining-ends : {next : ℕ} {exit : List ℕ} → Written to (lineEnd ∷ []) after exit next
         → Written at (others ns) before exit next
-    lining-ends b same = left-ends (left-goes (lineEnd ∷ []) [] end-left b same)
+    lining-ends b = left-ends (left-goes (lineEnd ∷ []) [] end-left b)
 
 -- a line's first number, and the others, which are the rest of the list
 line-begins : (ns : List ℕ) → 0 < length ns → line ns ≡ decimal (getD ns 0 0) ++ others (take (length ns - 1) (drop 1 ns))

@@ -1,18 +1,30 @@
 -- Writing a text piece by piece, by what is left of it.
 use Prim.Native.Nat.{ℕ, _+_, _≤_, _<_}
-use mathlib.Core.Path.{_≡_, refl, sym, ap, _∙_}
+use mathlib.Core.Path.{_≡_, refl, sym, ap, subst, _∙_}
 use mathlib.Core.List.{List, [], _∷_, _++_}
 use native.Mathlib.Numerals.{add-one}
 use native.Mathlib.Omega.{arith}
-use lib.ListN.{length, getD, drop, set, length-append, drop-of-length-le, length-set}
+use lib.ListN.{length, getD, drop, set, length-append, drop-of-length-le}
 use lib.Seq.{drop-cons}
 use Rattle.lists.specs.Lists.{over, overAt}
-use Rattle.lists.proofs.Pieces.{over-one, over-nothing, over-both}
+use Rattle.lists.proofs.Pieces.{over-one, over-nothing, over-length, over-both}
 use Rattle.text.specs.Written.{LongEnough, Written}
 
 -- one byte
 pub written-byte : (at b : ℕ) (buffer : List ℕ) → at < length buffer → Written at (b ∷ []) buffer (set buffer at b) (at + 1)
 written-byte at b buffer h = record { buffer-is = over-one at b buffer h; next-is = refl }
+
+-- two numbers
+pub written-two : (at a b : ℕ) (buffer : List ℕ) → at + 2 ≤ length buffer
+    → Written at (a ∷ b ∷ []) buffer (set (set buffer at a) (at + 1) b) (at + 2)
+written-two at a b buffer h =
+    record {
+      buffer-is =
+          ap (λ q. set q (at + 1) b) (over-one at a buffer (omega arith))
+          ∙ over-one (at + 1) b (overAt at (a ∷ []) buffer) (omega (arith, over-length at (a ∷ []) buffer (omega arith)))
+          ∙ over-both at (at + 1) (a ∷ []) (b ∷ []) buffer (omega arith) refl;
+      next-is = refl;
+    }
 
 pub written-nothing : (at : ℕ) (buffer : List ℕ) → Written at [] buffer buffer at
 written-nothing at buffer = record { buffer-is = sym (over-nothing at buffer); next-is = omega arith }
@@ -46,9 +58,9 @@ module _ {at to : ℕ} {whole before after : List ℕ} (text rest : List ℕ) (l
   pub left-fits : LongEnough to text after
   left-fits = omega (arith, l .fits, length-append text rest)
 
-  pub left-goes : {next : ℕ} {again : List ℕ} → Written to text after again next → length again ≡ length after
-      → Left at whole before next rest again
-  left-goes {next} {again} d same =
+  pub left-goes : {next : ℕ} {again : List ℕ} → Written to text after again next → Left at whole before next rest again
+  left-goes {next} {again} d =
+      let same : length again ≡ length after = ap length (d .buffer-is) ∙ over-length to text after left-fits in
       record {
         same-buffer = rw (d .buffer-is, d .next-is, over-both to (to + length text) text rest after (omega (arith, left-fits)) refl) (l .same-buffer);
         same-end = omega (arith, d .next-is, l .same-end, length-append text rest);
@@ -66,8 +78,40 @@ copied-goes {at} {i} {text} {before} {after} h l =
     let place : at + i + 1 ≡ at + (i + 1) = omega arith in
     let l′ = rw split at l in
     let fits : at + i < length after = omega (arith, left-fits (b ∷ []) rest l′) in
-    rw (← place) (left-goes (b ∷ []) rest l′ (written-byte (at + i) b after fits) (length-set after (at + i) b))
+    rw (← place) (left-goes (b ∷ []) rest l′ (written-byte (at + i) b after fits))
 
 pub copied-ends : {at i to : ℕ} {text before after : List ℕ} → length text ≤ i → Left at text before to (drop i text) after
     → Written at text before after to
 copied-ends {at} {i} {to} {text} h l = left-ends (rw (drop-of-length-le text h) at l)
+
+-- a text of four pieces, written one after the other
+module _ (at : ℕ) (whole before s t u v : List ℕ) (is : whole ≡ s ++ (t ++ (u ++ v))) (fits : LongEnough at whole before) where
+  begun : Left at whole before at (s ++ (t ++ (u ++ v))) before
+  begun = subst (λ rest. Left at whole before at rest before) is (left-starts fits)
+
+  pub first-fits : LongEnough at s before
+  first-fits = left-fits s _ begun
+
+  module _ {m : ℕ} {p : List ℕ} (d : Written at s before p m) where
+    after-first : Left at whole before m (t ++ (u ++ v)) p
+    after-first = left-goes s _ begun d
+
+    pub second-fits : LongEnough m t p
+    second-fits = left-fits t _ after-first
+
+    module _ {n : ℕ} {q : List ℕ} (e : Written m t p q n) where
+      after-second : Left at whole before n (u ++ v) q
+      after-second = left-goes t _ after-first e
+
+      pub third-fits : LongEnough n u q
+      third-fits = left-fits u _ after-second
+
+      module _ {k : ℕ} {r : List ℕ} (f : Written n u q r k) where
+        after-third : Left at whole before k v r
+        after-third = left-goes u v after-second f
+
+        pub fourth-fits : LongEnough k v r
+        fourth-fits = after-third .fits
+
+        pub four-written : {next : ℕ} {exit : List ℕ} → Written k v r exit next → Written at whole before exit next
+        four-written g = left-last after-third g

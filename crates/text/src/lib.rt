@@ -6,7 +6,7 @@ ghost use lib.ListN.{length};
 ghost use Rattle.text.specs.Written.{LongEnough, Written};
 ghost use Rattle.text.specs.Text.{decimal, others, line};
 
-fn put_byte(buffer: &mut [u8], at: usize, byte: u8) -> usize
+pub fn put_byte(buffer: &mut [u8], at: usize, byte: u8) -> usize
     requires { ⌜ at < length (now buffer) ⌝ }
     ensures { λ r. ⌜ Written at (byte ∷ []) (now (buffer .entry)) (now (buffer .exit)) r ⌝ }
 {
@@ -26,7 +26,7 @@ pub fn put_text(buffer: &mut [u8], at: usize, text: &[u8]) -> usize
     at + i
 }
 
-fn put_number(buffer: &mut [u8], at: usize, n: u64) -> usize
+pub fn put_number(buffer: &mut [u8], at: usize, n: u64) -> usize
     requires { ⌜ LongEnough at (decimal n) (now buffer) ⌝ }
     ensures { λ r. ⌜ Written at (decimal n) (now (buffer .entry)) (now (buffer .exit)) r ⌝ }
 {

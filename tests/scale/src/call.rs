@@ -52,7 +52,8 @@ impl Call {
     }
 }
 
-fn extra(rng: &mut Random) -> usize {
+/// Nothing, or a little more than needed.
+pub(crate) fn extra(rng: &mut Random) -> usize {
     if rng.one_in(2) {
         0
     } else {
@@ -61,7 +62,7 @@ fn extra(rng: &mut Random) -> usize {
 }
 
 /// A length below `needed`, if there is one.
-fn short(needed: usize, rng: &mut Random) -> usize {
+pub(crate) fn short(needed: usize, rng: &mut Random) -> usize {
     match rng.below(3) {
         0 => 0,
         1 => needed.saturating_sub(1),

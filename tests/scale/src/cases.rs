@@ -56,7 +56,7 @@ pub fn tree_a() -> Vec<Record> {
     ]
 }
 
-fn tree_b() -> Vec<Record> {
+pub(crate) fn tree_b() -> Vec<Record> {
     vec![group(0, 2, 0), group(0, 3, 7), taxon(0, 0, 2, 1)]
 }
 

@@ -2,9 +2,10 @@
 
 use crate::expect::Expected;
 use crate::frame::difference;
-use crate::library::{CheckObserved, ChooseObserved, FindObserved, ReadObserved};
+use crate::library::{CheckObserved, ChooseObserved, FindObserved, ReadObserved, WriteObserved};
 use crate::reading::ReadExpected;
 use crate::rules::Refusal;
+use crate::writing::WriteExpected;
 
 /// The differences found, and how many numbers and bytes were compared.
 #[derive(Debug, PartialEq, Eq)]
@@ -102,6 +103,26 @@ pub fn read(expected: &ReadExpected, observed: &ReadObserved) -> Comparison {
     }
 }
 
+pub fn write(expected: &WriteExpected, observed: &WriteObserved) -> Comparison {
+    let (before, after) = (&observed.before, &observed.after);
+    let differences = [
+        returned(expected.answer[0], observed.returned),
+        difference("answer", &before.answer, &after.answer, &expected.answer),
+        difference("outline", &before.outline, &after.outline, &[]),
+        difference("text", &before.text, &after.text, &expected.text),
+        difference("pairs", &before.pairs, &after.pairs, &expected.pairs),
+    ];
+    let values = 1
+        + after.answer.cells.len()
+        + after.outline.cells.len()
+        + after.text.cells.len()
+        + after.pairs.cells.len();
+    Comparison {
+        differences: differences.into_iter().flatten().collect(),
+        values,
+    }
+}
+
 #[cfg(test)]
 mod tests {
     use super::*;
@@ -109,11 +130,12 @@ mod tests {
     use crate::cases;
     use crate::expect;
     use crate::frame::Frame;
-    use crate::library::{Buffers, ReadBuffers};
+    use crate::library::{Buffers, ReadBuffers, WriteBuffers};
     use crate::lock_cases::locking;
     use crate::outline::{bytes, Record};
     use crate::random::Random;
     use crate::reading::{self, ReadCall};
+    use crate::writing::{self, WriteCall};
 
     /// What a right library does.
     fn right(expected: &Expected, call: &Call) -> ChooseObserved {
@@ -366,9 +388,10 @@ mod tests {
     }
 
     /// Every altered element of the frame must be the one difference.
-    fn notices_every_read_cell<T: crate::frame::Cell>(
-        (expected, observed): &(ReadExpected, ReadObserved),
-        frame: impl Fn(&mut ReadObserved) -> &mut Frame<T>,
+    fn is_the_one_difference<E, O: Clone, T: crate::frame::Cell>(
+        compare: impl Fn(&E, &O) -> Comparison,
+        (expected, observed): &(E, O),
+        frame: impl Fn(&mut O) -> &mut Frame<T>,
         alter: impl Fn(T) -> T,
     ) {
         let cells = frame(&mut observed.clone()).cells.len();
@@ -376,7 +399,8 @@ mod tests {
             let mut altered = observed.clone();
             let cell = &mut frame(&mut altered).cells[at];
             *cell = alter(*cell);
-            assert_eq!(read(expected, &altered).differences.len(), 1, "cell {at}");
+            let found = compare(expected, &altered).differences;
+            assert_eq!(found.len(), 1, "cell {at}");
         }
     }
 
@@ -386,16 +410,58 @@ mod tests {
             let pair = reading(outline);
             assert_eq!(pair.0.answer[0], number);
             assert_eq!(read(&pair.0, &pair.1).differences, [""; 0]);
-            notices_every_read_cell(&pair, |o| &mut o.after.answer, |v| v ^ (1 << 31));
-            notices_every_read_cell(&pair, |o| &mut o.after.text, |v| v ^ 1);
-            notices_every_read_cell(&pair, |o| &mut o.after.pairs, |v| v ^ 1);
-            notices_every_read_cell(&pair, |o| &mut o.after.outline, |v| v ^ 128);
+            is_the_one_difference(read, &pair, |o| &mut o.after.answer, |v| v ^ (1 << 31));
+            is_the_one_difference(read, &pair, |o| &mut o.after.text, |v| v ^ 1);
+            is_the_one_difference(read, &pair, |o| &mut o.after.pairs, |v| v ^ 1);
+            is_the_one_difference(read, &pair, |o| &mut o.after.outline, |v| v ^ 128);
             let (expected, mut altered) = pair;
             altered.returned ^= 1;
             assert_eq!(read(&expected, &altered).differences.len(), 1);
             altered.after.outline = altered.before.outline.clone();
             let untouched = read(&expected, &altered).differences.len();
             assert_eq!(untouched, if number == 0 { 2 } else { 1 });
+        }
+    }
+
+    /// Tree A written by a right library to a buffer of this length and one of 8 numbers.
+    fn writing(text: usize) -> (WriteExpected, WriteObserved) {
+        let call = WriteCall {
+            outline: bytes(&cases::tree_a()),
+            text,
+            pairs: 8,
+        };
+        let expected = writing::expected(&call);
+        let before = WriteBuffers::random(&call, &mut Random::new(5));
+        let mut after = before.clone();
+        after.answer.write(&expected.answer);
+        after.text.write(&expected.text);
+        after.pairs.write(&expected.pairs);
+        let returned = expected.answer[0];
+        let observed = WriteObserved {
+            returned,
+            before,
+            after,
+        };
+        (expected, observed)
+    }
+
+    #[test]
+    fn wrong_writings_are_noticed() {
+        for (text, number) in [(30, 0), (22, 9)] {
+            let pair = writing(text);
+            assert_eq!(pair.0.answer[0], number);
+            assert_eq!(write(&pair.0, &pair.1).differences, [""; 0]);
+            is_the_one_difference(write, &pair, |o| &mut o.after.answer, |v| v ^ (1 << 31));
+            is_the_one_difference(write, &pair, |o| &mut o.after.outline, |v| v ^ 1);
+            is_the_one_difference(write, &pair, |o| &mut o.after.text, |v| v ^ 1);
+            is_the_one_difference(write, &pair, |o| &mut o.after.pairs, |v| v ^ (1 << 31));
+            let (expected, mut altered) = pair;
+            altered.returned ^= 1;
+            assert_eq!(write(&expected, &altered).differences.len(), 1);
+            altered.after.text = altered.before.text.clone();
+            altered.after.pairs = altered.before.pairs.clone();
+            let untouched = write(&expected, &altered).differences.len();
+            assert_eq!(untouched, if number == 0 { 3 } else { 1 });
         }
     }
 }

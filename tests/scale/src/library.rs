@@ -4,6 +4,7 @@ use crate::call::Call;
 use crate::frame::Frame;
 use crate::random::Random;
 use crate::reading::ReadCall;
+use crate::writing::WriteCall;
 
 extern "C" {
     fn plates_check(outline: *const u8, outline_len: usize, place: *mut u32) -> u32;
@@ -28,6 +29,15 @@ extern "C" {
         pairs_len: usize,
         outline: *mut u8,
         outline_len: usize,
+        answer: *mut u32,
+    ) -> u32;
+    fn plates_write(
+        outline: *const u8,
+        outline_len: usize,
+        text: *mut u8,
+        text_len: usize,
+        pairs: *mut u32,
+        pairs_len: usize,
         answer: *mut u32,
     ) -> u32;
 }
@@ -86,6 +96,24 @@ pub fn read(text: &[u8], pairs: &[u32], outline: &mut [u8]) -> [u32; 3] {
             pairs.len(),
             outline.as_mut_ptr(),
             outline.len(),
+            answer.as_mut_ptr(),
+        );
+    }
+    answer
+}
+
+/// The four numbers of the answer: number, place, bytes, pairs.
+pub fn write(outline: &[u8], text: &mut [u8], pairs: &mut [u32]) -> [u32; 4] {
+    let mut answer = [0; 4];
+    // SAFETY: every pointer comes with the length of the slice it was taken from, and no two slices overlap.
+    unsafe {
+        plates_write(
+            outline.as_ptr(),
+            outline.len(),
+            text.as_mut_ptr(),
+            text.len(),
+            pairs.as_mut_ptr(),
+            pairs.len(),
             answer.as_mut_ptr(),
         );
     }
@@ -250,6 +278,56 @@ pub fn guarded_read(call: &ReadCall, rng: &mut Random) -> ReadObserved {
     }
 }
 
+/// What a writing call is handed, with its guards.
+#[derive(Clone, Debug)]
+pub struct WriteBuffers {
+    pub outline: Frame<u8>,
+    pub text: Frame<u8>,
+    pub pairs: Frame<u32>,
+    pub answer: Frame<u32>,
+}
+
+impl WriteBuffers {
+    pub fn random(call: &WriteCall, rng: &mut Random) -> Self {
+        WriteBuffers {
+            outline: Frame::holding(&call.outline, rng),
+            text: Frame::random(call.text, rng),
+            pairs: Frame::random(call.pairs, rng),
+            answer: Frame::random(4, rng),
+        }
+    }
+}
+
+/// What a writing call returned and did to its buffers.
+#[derive(Clone, Debug)]
+pub struct WriteObserved {
+    pub returned: u32,
+    pub before: WriteBuffers,
+    pub after: WriteBuffers,
+}
+
+pub fn guarded_write(call: &WriteCall, rng: &mut Random) -> WriteObserved {
+    let before = WriteBuffers::random(call, rng);
+    let mut after = before.clone();
+    // SAFETY: each frame's buffer has the length given here, and the frames are separate allocations.
+    let returned = unsafe {
+        plates_write(
+            after.outline.pointer(),
+            after.outline.len,
+            after.text.pointer(),
+            after.text.len,
+            after.pairs.pointer(),
+            after.pairs.len,
+            after.answer.pointer(),
+        )
+    };
+    WriteObserved {
+        returned,
+        before,
+        after,
+    }
+}
+
 #[cfg(test)]
 mod tests {
     use super::*;
@@ -284,5 +362,14 @@ mod tests {
         assert_eq!(answer, [0, 0, 5]);
         assert_eq!(outline[..80], bytes(&tree_a()));
         assert_eq!(outline[80], 9);
+    }
+
+    #[test]
+    fn wrapper_writes_tree_a() {
+        let (mut text, mut pairs) = ([9; 24], [9; 7]);
+        let answer = write(&bytes(&tree_a()), &mut text, &mut pairs);
+        assert_eq!(answer, [0, 0, 23, 3]);
+        assert_eq!(text, *b"((11:4,12:2):3,13:5):0;\x09");
+        assert_eq!(pairs, [11, 3, 12, 1, 13, 2, 9]);
     }
 }

@@ -440,7 +440,7 @@ fn costs() -> Vec<Limit> {
 }
 
 /// Tree A with this plate field at a record.
-fn with_field(number: usize, field: u32) -> Vec<Record> {
+pub(crate) fn with_field(number: usize, field: u32) -> Vec<Record> {
     let mut records = tree_a();
     records[number - 1].plate = field;
     records

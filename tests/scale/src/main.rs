@@ -1,13 +1,22 @@
-//! The comparison at scale: `scale [SEED [OUTLINES]]`.
+//! The comparison at scale: `scale [SEED [OUTLINES]]`; and `scale --texts FILE`, which leaves written trees for another parser.
 
 use std::env;
+use std::fs;
 use std::process::ExitCode;
 
+use plates_scale::peer;
+use plates_scale::random::Random;
 use plates_scale::runs::{Runner, DEFAULT_OUTLINES, DEFAULT_SEED};
 
 fn main() -> ExitCode {
-    let Some((seed, outlines)) = arguments() else {
-        eprintln!("usage: scale [SEED [OUTLINES]]");
+    let given: Vec<String> = env::args().skip(1).collect();
+    if let [option, file] = &given[..] {
+        if option == "--texts" {
+            return leave_texts(file);
+        }
+    }
+    let Some((seed, outlines)) = numbers(&given) else {
+        eprintln!("usage: scale [SEED [OUTLINES]] or scale --texts FILE");
         return ExitCode::from(2);
     };
     println!("seed {seed}, {outlines} outlines");
@@ -21,9 +30,20 @@ fn main() -> ExitCode {
     }
 }
 
-fn arguments() -> Option<(u64, u64)> {
-    let given: Vec<u64> = env::args()
-        .skip(1)
+fn leave_texts(file: &str) -> ExitCode {
+    let lines = peer::lines(&mut Random::new(DEFAULT_SEED));
+    match fs::write(file, lines) {
+        Ok(()) => ExitCode::SUCCESS,
+        Err(error) => {
+            eprintln!("{file}: {error}");
+            ExitCode::FAILURE
+        }
+    }
+}
+
+fn numbers(given: &[String]) -> Option<(u64, u64)> {
+    let given: Vec<u64> = given
+        .iter()
         .map(|argument| argument.parse().ok())
         .collect::<Option<_>>()?;
     match given[..] {

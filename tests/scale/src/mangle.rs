@@ -49,6 +49,11 @@ impl Fault {
 
 /// A call without a fault, of at most 64 taxa and 127 records.
 pub fn sound_call(rng: &mut Random) -> ReadCall {
+    call_for(&sound_tree(rng), rng)
+}
+
+/// A tree of at most 64 taxa and 127 records that a text can spell.
+pub(crate) fn sound_tree(rng: &mut Random) -> Vec<Record> {
     let taxa = if rng.one_in(10) {
         1 + rng.index(64)
     } else {
@@ -56,16 +61,14 @@ pub fn sound_call(rng: &mut Random) -> ReadCall {
     };
     let most = if rng.one_in(8) { 127 } else { 2 * taxa };
     let mut records = shapes::random_outline(taxa, most, rng);
-    shapes::fill_randomly(&mut records, 40, rng);
-    shorten_plates(&mut records);
-    call_for(&records, rng)
+    fill_for_text(&mut records, rng);
+    records
 }
 
 /// A call with these faults and of any size, so at times with others too. A fault that there is no room for is left out.
 pub fn faulty_call(faults: &[Fault], rng: &mut Random) -> ReadCall {
     let mut records = damage::any_size(rng);
-    shapes::fill_randomly(&mut records, 40, rng);
-    shorten_plates(&mut records);
+    fill_for_text(&mut records, rng);
     for &fault in faults {
         damage_tree(fault, &mut records, rng);
     }
@@ -76,8 +79,9 @@ pub fn faulty_call(faults: &[Fault], rng: &mut Random) -> ReadCall {
     call
 }
 
-/// Plates of at most 9 digits. Those that are drawn in a row stay different.
-fn shorten_plates(records: &mut [Record]) {
+/// Fills an outline with lengths, prices and plates of at most 9 digits. Plates that are drawn in a row stay different.
+pub(crate) fn fill_for_text(records: &mut [Record], rng: &mut Random) {
+    shapes::fill_randomly(records, 40, rng);
     for record in records {
         record.plate %= 1_000_000_000;
     }

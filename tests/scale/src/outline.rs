@@ -51,10 +51,10 @@ pub fn bytes(records: &[Record]) -> Vec<u8> {
 
 /// The whole records in these bytes; bytes after the last whole record are left out.
 pub fn records(bytes: &[u8]) -> Vec<Record> {
-    bytes.chunks_exact(RECORD_BYTES).map(record).collect()
+    bytes.as_chunks().0.iter().map(record).collect()
 }
 
-fn record(bytes: &[u8]) -> Record {
+fn record(bytes: &[u8; RECORD_BYTES]) -> Record {
     let narrow = |at: usize| u16::from_le_bytes([bytes[at], bytes[at + 1]]);
     let wide = |at: usize| u32::from(narrow(at)) | u32::from(narrow(at + 2)) << 16;
     Record {

@@ -74,6 +74,25 @@ impl Report {
         }
     }
 
+    /// Prints how often each refusal was given; `times` has them by number, and at 0 how often there was none. Fails the whole if
+    /// one was too seldom.
+    pub fn refusals(&mut self, of: &str, refusals: &[usize], times: &[u64], least: u64) {
+        let given: Vec<u64> = refusals.iter().map(|&number| times[number]).collect();
+        println!("   accepted {}, refusals {refusals:?}: {given:?}", times[0]);
+        for (number, times) in refusals.iter().zip(given) {
+            self.require(&format!("refusal {number} of {of}"), times, least);
+        }
+    }
+
+    /// Prints how often each was met, and fails the whole if one was too seldom.
+    pub fn met(&mut self, before: &str, times: &[(&str, u64)], least: u64) {
+        let counts = times.iter().map(|(name, times)| format!("{name} {times}"));
+        println!("   {before} {}", counts.collect::<Vec<_>>().join(", "));
+        for &(name, times) in times {
+            self.require(name, times, least);
+        }
+    }
+
     /// Prints how many outlines have headings and locks and what the calls with them came to. Fails the whole if it is too few.
     pub fn tally(&mut self, run: &str, tally: &Tally) {
         self.headings(run, tally.headings);
@@ -239,6 +258,18 @@ mod tests {
         assert!(report.passed());
         report.require("refusal 3", 99, 100);
         assert!(!report.passed());
+    }
+
+    #[test]
+    fn a_refusal_or_a_name_that_is_met_too_seldom_fails() {
+        for (times, passes) in [([0, 5, 5], true), ([9, 4, 5], false), ([9, 5, 4], false)] {
+            let mut report = Report::default();
+            report.refusals("a run", &[1, 2], &times, 5);
+            assert_eq!(report.passed(), passes, "{times:?}");
+            let mut report = Report::default();
+            report.met("with", &[("one", times[1]), ("two", times[2])], 5);
+            assert_eq!(report.passed(), passes, "{times:?}");
+        }
     }
 
     #[test]

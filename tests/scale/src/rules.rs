@@ -65,12 +65,12 @@ pub(crate) fn numbers(records: &[Record]) -> std::ops::RangeInclusive<usize> {
     1..=records.len()
 }
 
-fn without_place(number: u32, holds: bool) -> Option<Refusal> {
+pub(crate) fn without_place(number: u32, holds: bool) -> Option<Refusal> {
     holds.then_some(Refusal { number, place: 0 })
 }
 
 /// The refusal at the lowest record for which `holds`.
-fn at_lowest(
+pub(crate) fn at_lowest(
     number: u32,
     records: &[Record],
     holds: impl Fn(&[Record], usize) -> bool,

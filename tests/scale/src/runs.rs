@@ -48,7 +48,10 @@ impl Runner {
         self.faulty_texts(2 * outlines)?;
         self.stated_texts()?;
         self.heading_cases()?;
-        self.lock_cases()
+        self.lock_cases()?;
+        self.written_outlines(2 * outlines)?;
+        self.rewritten_texts(2 * outlines)?;
+        self.stated_writings()
     }
 
     /// Starts a run with numbers that do not depend on the runs before it.
@@ -265,7 +268,7 @@ impl Runner {
 }
 
 /// An outline of at most 10 taxa and a page count; few taxa at times get a great page count.
-fn small_outline(rng: &mut Random) -> (Vec<Record>, u32) {
+pub(crate) fn small_outline(rng: &mut Random) -> (Vec<Record>, u32) {
     let taxa = 1 + rng.index(10);
     let most = if rng.one_in(30) { 127 } else { 24 };
     let mut records = shapes::random_outline(taxa, most, rng);

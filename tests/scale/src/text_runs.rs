@@ -3,7 +3,7 @@
 use std::thread;
 
 use crate::compare;
-use crate::library;
+use crate::library::{self, ReadObserved};
 use crate::mangle::{self, Fault};
 use crate::newick;
 use crate::outline::{members, Record};
@@ -13,8 +13,8 @@ use crate::report::Stop;
 use crate::runs::Runner;
 use crate::text_cases;
 
-/// The stack that the deepest texts are read on.
-const SMALL_STACK: usize = 256 * 1_024;
+/// The stack that the deepest texts are read and written on.
+pub(crate) const SMALL_STACK: usize = 256 * 1_024;
 
 /// The refusals that reading can give.
 const REFUSALS: [usize; 7] = [10, 3, 11, 9, 5, 7, 8];
@@ -73,10 +73,15 @@ fn depth(records: &[Record], position: usize) -> usize {
 }
 
 impl Runner {
-    fn read(&mut self, call: &ReadCall, expected: &ReadExpected) -> Result<(), Stop> {
+    pub(crate) fn read(
+        &mut self,
+        call: &ReadCall,
+        expected: &ReadExpected,
+    ) -> Result<ReadObserved, Stop> {
         let observed = library::guarded_read(call, &mut self.rng);
         let comparison = compare::read(expected, &observed);
-        self.report.add(&comparison, 0, || described(call))
+        self.report.add(&comparison, 0, || described(call))?;
+        Ok(observed)
     }
 
     pub(crate) fn sound_texts(&mut self, texts: u64) -> Result<(), Stop> {
@@ -98,11 +103,8 @@ impl Runner {
         // Plates that are cut to 9 digits may be 0 or meet.
         self.report
             .require("an accepted text", accepted, texts - texts / 100);
-        let named = ODDITIES.iter().map(|(name, _)| *name).zip(times);
-        println!("   with {}", listed(named.clone()));
-        for (name, count) in named {
-            self.report.require(name, count, texts / 200);
-        }
+        let named: Vec<_> = ODDITIES.iter().map(|(name, _)| *name).zip(times).collect();
+        self.report.met("with", &named, texts / 200);
         Ok(())
     }
 
@@ -121,20 +123,11 @@ impl Runner {
             self.read(&call, &expected)?;
         }
         self.report.line(&format!("h. {texts} faulty texts"));
-        let of_refusals = REFUSALS.map(|number| numbers[number]);
-        println!(
-            "   accepted {}, refusals {REFUSALS:?}: {of_refusals:?}",
-            numbers[0]
-        );
-        let named = Fault::ALL.map(|fault| format!("{fault:?}"));
-        println!("   faults: {}", listed(named.iter().zip(times)));
-        for (number, count) in REFUSALS.into_iter().zip(of_refusals) {
-            let refusal = format!("refusal {number} of a text");
-            self.report.require(&refusal, count, texts / 200);
-        }
-        for (name, count) in named.iter().zip(times) {
-            self.report.require(name, count, texts / 200);
-        }
+        self.report
+            .refusals("a text", &REFUSALS, &numbers, texts / 200);
+        let names = Fault::ALL.map(|fault| format!("{fault:?}"));
+        let named: Vec<_> = names.iter().map(String::as_str).zip(times).collect();
+        self.report.met("faults:", &named, texts / 200);
         Ok(())
     }
 
@@ -145,12 +138,7 @@ impl Runner {
         for case in &cases {
             let mut expected = reading::expected(&case.call);
             expected.answer = case.answer;
-            let observed = thread::scope(|scope| {
-                let read = || library::guarded_read(&case.call, &mut self.rng);
-                let small = thread::Builder::new().stack_size(SMALL_STACK);
-                let thread = small.spawn_scoped(scope, read).expect("a thread");
-                thread.join().expect("no panic")
-            });
+            let observed = on_small_stack(|| library::guarded_read(&case.call, &mut self.rng));
             let comparison = compare::read(&expected, &observed);
             self.report.add(&comparison, 0, || described(&case.call))?;
         }
@@ -162,17 +150,18 @@ impl Runner {
     }
 }
 
+pub(crate) fn on_small_stack<T: Send>(call: impl FnOnce() -> T + Send) -> T {
+    thread::scope(|scope| {
+        let small = thread::Builder::new().stack_size(SMALL_STACK);
+        let thread = small.spawn_scoped(scope, call).expect("a thread");
+        thread.join().expect("no panic")
+    })
+}
+
 /// Mostly one fault, at times none or a few.
 fn some_faults(rng: &mut Random) -> Vec<Fault> {
     let faults = rng.pick(&[0, 1, 1, 1, 1, 1, 2, 3]);
     (0..faults).map(|_| rng.pick(&Fault::ALL)).collect()
-}
-
-fn listed(counts: impl Iterator<Item = (impl std::fmt::Display, u64)>) -> String {
-    let items: Vec<String> = counts
-        .map(|(name, count)| format!("{name} {count}"))
-        .collect();
-    items.join(", ")
 }
 
 fn described(call: &ReadCall) -> String {

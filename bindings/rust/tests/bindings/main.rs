@@ -1,5 +1,5 @@
 //! Tests of the bindings: document 01's cases, headings that take space, locked taxa, the refusals,
-//! building trees, reading texts, and calls that share memory or run at once.
+//! building trees, reading and writing texts, and calls that share memory or run at once.
 
 mod cases;
 mod choosing;
@@ -10,3 +10,4 @@ mod refusals;
 mod support;
 mod texts;
 mod trees;
+mod writing;

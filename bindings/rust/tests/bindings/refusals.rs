@@ -1,35 +1,12 @@
 //! Every refusal: through the safe interface where it can arise there, else through the C
 //! interface.
 
-use crate::support::{bytes, tree_a, Fields, LOCK, TREE_A};
+use crate::support::{bytes, changed, star_records, tree_a, Fields, LOCK, TREE_A};
 use plates::{choose, sys, Outline, Refusal, Way};
 use std::error::Error;
 
 fn refused(records: &[Fields]) -> Refusal {
     Outline::from_bytes(&bytes(records)).expect_err("the outline isn't sound")
-}
-
-/// Tree A with one field changed.
-fn changed(record: usize, field: usize, value: u32) -> Vec<Fields> {
-    let mut records = TREE_A.to_vec();
-    records[record - 1][field] = value;
-    records
-}
-
-/// A root with taxa, and plates from 1.
-fn star(taxa: u32) -> Vec<Fields> {
-    let last = taxa + 1;
-    let taxon = |number| {
-        [
-            if number < last { number + 1 } else { 0 },
-            0,
-            1,
-            1,
-            number - 1,
-        ]
-    };
-    let root = [0, 2, 0, 0, 0];
-    std::iter::once(root).chain((2..=last).map(taxon)).collect()
 }
 
 /// The buffers of a call for tree A, each full of a value that no call writes.
@@ -163,8 +140,8 @@ fn bad_link() {
 
 #[test]
 fn too_many_taxa() {
-    assert_eq!(refused(&star(65)), Refusal::TooManyTaxa);
-    assert!(Outline::from_bytes(&bytes(&star(64))).is_ok());
+    assert_eq!(refused(&star_records(65)), Refusal::TooManyTaxa);
+    assert!(Outline::from_bytes(&bytes(&star_records(64))).is_ok());
 }
 
 #[test]
@@ -225,7 +202,7 @@ fn longer_buffers_keep_the_rest() {
 
 #[test]
 fn first_that_holds_is_given() {
-    let mut records = star(65);
+    let mut records = star_records(65);
     records[65] = [1, 0, 1, 1, 1];
     let broken = bytes(&records);
     let judge = |outline: &[u8], count, way| Buffers::new(0, 0, 0).choose(outline, count, way);
@@ -236,7 +213,7 @@ fn first_that_holds_is_given() {
     records[64][3] = 65_536;
     assert_eq!(judge(&bytes(&records), 0, 1)[..2], [5, 65]);
     assert_eq!(judge(&broken, 0, 1)[..2], [6, 66]);
-    records = star(65);
+    records = star_records(65);
     records[65][4] = 1;
     assert_eq!(judge(&bytes(&records), 0, 1)[..2], [7, 0]);
     assert_eq!(judge(&bytes(&changed(4, 4, 11)), 0, 1)[..2], [8, 4]);
@@ -249,10 +226,10 @@ fn first_that_holds_is_given() {
 
 #[test]
 fn numbers_and_places() {
-    for number in 1..=12 {
-        let refusal = Refusal::from_parts(number, 7).expect("twelve refusals");
+    for number in 1..=13 {
+        let refusal = Refusal::from_parts(number, 7).expect("thirteen refusals");
         assert_eq!(refusal.number(), number);
-        let has_place = [5, 6, 8].contains(&number);
+        let has_place = [5, 6, 8, 13].contains(&number);
         assert_eq!(refusal.place(), has_place.then_some(7));
         assert!(!matches!(refusal, Refusal::Other { .. }));
     }
@@ -296,6 +273,12 @@ fn refusals_are_errors_with_a_sentence() {
     assert_eq!(
         locked,
         "the locked taxa, with the headings above them, cost more than the page count"
+    );
+    let unwritable = Refusal::Unwritable { record: 2 }.to_string();
+    assert_eq!(
+        unwritable,
+        "record 2: it has a heading's price, a lock or a plate of more than 9 digits, for which \
+         a text has no form"
     );
     let later = |place| Refusal::from_parts(4_000, place).map(|refusal| refusal.to_string());
     let sentence = "refusal 4000, which these bindings do not know";

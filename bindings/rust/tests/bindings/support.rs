@@ -18,6 +18,32 @@ pub const TREE_A: [Fields; 5] = [
     [0, 0, 5, 2, 13],
 ];
 
+/// Plate and price of tree A's taxa.
+pub const PRICES_A: [(u32, u32); 3] = [(11, 3), (12, 1), (13, 2)];
+
+/// Tree A with one field changed.
+pub fn changed(record: usize, field: usize, value: u32) -> Vec<Fields> {
+    let mut records = TREE_A.to_vec();
+    records[record - 1][field] = value;
+    records
+}
+
+/// A root with taxa, and plates from 1.
+pub fn star_records(taxa: u32) -> Vec<Fields> {
+    let last = taxa + 1;
+    let taxon = |number| {
+        [
+            if number < last { number + 1 } else { 0 },
+            0,
+            1,
+            1,
+            number - 1,
+        ]
+    };
+    let root = [0, 2, 0, 0, 0];
+    std::iter::once(root).chain((2..=last).map(taxon)).collect()
+}
+
 /// The bytes of records, sound or not. Links keep their two low bytes.
 pub fn bytes(records: &[Fields]) -> Vec<u8> {
     let mut bytes = Vec::new();

@@ -1,12 +1,11 @@
 //! Outlines from text: what the grammar allows, which prices go with it, and what is refused.
 
-use crate::support::{bytes, sound, star, tree_a, TREE_A};
+use crate::support::{bytes, sound, star, tree_a, PRICES_A, TREE_A};
 use plates::{sys, Outline, Refusal, Tree, MOST_RECORDS, MOST_TEXT_LEN, RECORD_BYTES};
 use std::collections::BTreeMap;
 use std::thread;
 
 const TEXT_A: &str = "((11:4,12:2):3,13:5);";
-const PRICES_A: [(u32, u32); 3] = [(11, 3), (12, 1), (13, 2)];
 
 /// Reads with price 1 for each of these plates.
 fn read(text: impl AsRef<[u8]>, plates: &[u32]) -> Result<Outline, Refusal> {

@@ -20,7 +20,7 @@ begun : (c : tie.After-put-number) →
     Left (s .args .at) (line ns) (s .args .buffer .now) (c .put-number .result) (others (take (length ns - 1) (drop 1 ns))) (c .put-number .last .0)
 begun c =
     let s = c .before .before .before .before .before in
-    left-goes _ _ (line-left _ _ (s .args .buffer .now) (s .pre .0) (s .pre .1)) (c .put-number .ensures) (c .put-number .kept .0)
+    left-goes _ _ (line-left _ _ (s .args .buffer .now) (s .pre .0) (s .pre .1)) (c .put-number .ensures)
 
 put-others-requires : tie.Need-put-others-requires
 put-others-requires c κs = begun (c .before .before .before .before) .fits

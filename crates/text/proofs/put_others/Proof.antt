@@ -19,15 +19,15 @@ put-number-requires : tie.Need-put-number-requires Inv-loop μ-loop
 put-number-requires c κs =
     let byte = c .before .before .before .before in
     let at-loop = byte .before .before .before in
-    number-fits (at-loop .loop .inv) (byte .before .before .loop-test .taken) (byte .put-byte .ensures) (byte .put-byte .kept .0)
+    number-fits (at-loop .loop .inv) (byte .before .before .loop-test .taken) (byte .put-byte .ensures)
 
 loop-again : tie.Need-loop-again Inv-loop μ-loop
 loop-again c =
     let number = c .before .before in
     let byte = number .before .before .before .before .before in
     let at-loop = byte .before .before .before in
-    lining-goes (at-loop .loop .inv) (byte .before .before .loop-test .taken) (byte .put-byte .ensures) (byte .put-byte .kept .0)
-    (number .put-number .ensures) (number .put-number .kept .0)
+    lining-goes (at-loop .loop .inv) (byte .before .before .loop-test .taken) (byte .put-byte .ensures)
+    (number .put-number .ensures)
 
 put-byte-requires-2 : tie.Need-put-byte-requires-2 Inv-loop μ-loop
 put-byte-requires-2 c κs = end-fits (c .before .before .loop .inv) (c .before .loop-test .left)
@@ -36,7 +36,7 @@ returns : tie.Need-returns Inv-loop μ-loop
 returns c =
     let byte = c .before .before in
     let loop-test = byte .before .before in
-    lining-ends (loop-test .before .loop .inv) (loop-test .loop-test .left) (byte .put-byte2 .ensures) (byte .put-byte2 .kept .0)
+    lining-ends (loop-test .before .loop .inv) (loop-test .loop-test .left) (byte .put-byte2 .ensures)
 
 pub put-others-spec : {M : Type 1} → statement M
 put-others-spec =

@@ -22,7 +22,7 @@ put-column-requires c κs = (search needs, walking-fits (c .before .before .loop
 loop-again : tie.Need-loop-again Inv-loop μ-loop
 loop-again c =
     let put = c .before .before in
-    walking-goes (put .before .before .before .loop .inv) (search needs) (put .put-column .ensures) (put .put-column .kept .0)
+    walking-goes (put .before .before .before .loop .inv) (search needs) (put .put-column .ensures)
 
 returns : tie.Need-returns Inv-loop μ-loop
 unfolding columnsText

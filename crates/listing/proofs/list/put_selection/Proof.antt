@@ -19,7 +19,7 @@ begun : (c : tie.After-put-line) →
     Left 0 (line (s .args .first .now) ++ rest) (s .args .buffer .now) (c .put-line .result) rest (c .put-line .last .0)
 begun c =
     let s = c .before .before .before .before .before .before .before in
-    left-goes (line (s .args .first .now)) _ (left-starts (s .pre .1)) (c .put-line .ensures) (c .put-line .kept .0)
+    left-goes (line (s .args .first .now)) _ (left-starts (s .pre .1)) (c .put-line .ensures)
 
 put-columns-requires : tie.Need-put-columns-requires
 put-columns-requires c κs =
@@ -36,7 +36,7 @@ columns-written : (c : tie.After-put-columns) →
 columns-written c =
     let first = c .before .before .before .before in
     let s = first .before .before .before .before .before .before .before in
-    left-goes (columnsText (s .args .curve .now) (s .args .width)) _ (begun first) (c .put-columns .ensures) (c .put-columns .kept .0)
+    left-goes (columnsText (s .args .curve .now) (s .args .width)) _ (begun first) (c .put-columns .ensures)
 
 put-taxa-requires : tie.Need-put-taxa-requires
 put-taxa-requires c κs =

@@ -20,7 +20,7 @@ begun : (c : tie.After-put-text) →
     let t = refusal (s .args .refusal) in
     Left 0 (refusalText t) (s .args .buffer .now) (c .put-text .result) (others (t .number ∷ t .place ∷ [])) (c .put-text .last .0)
 unfolding refusalText
-begun c = left-goes _ _ (left-starts (c .before .before .before .before .before .before .pre)) (c .put-text .ensures) (c .put-text .kept .0)
+begun c = left-goes _ _ (left-starts (c .before .before .before .before .before .before .pre)) (c .put-text .ensures)
 
 -- the numbers are the refusal's
 told : (c : tie.After-place-of) →

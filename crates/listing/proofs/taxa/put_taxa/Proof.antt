@@ -23,7 +23,7 @@ put-taxon-requires c κs = (search needs, search needs, walking-fits (c .before 
 loop-again : tie.Need-loop-again Inv-loop μ-loop
 loop-again c =
     let put = c .before .before in
-    walking-goes (put .before .before .before .loop .inv) (search needs) (put .put-taxon .ensures) (put .put-taxon .kept .0)
+    walking-goes (put .before .before .before .loop .inv) (search needs) (put .put-taxon .ensures)
 
 returns : tie.Need-returns Inv-loop μ-loop
 unfolding taxaText records

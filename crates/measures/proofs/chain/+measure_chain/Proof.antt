@@ -5,7 +5,8 @@ use borrow.Fn.Kinds.{In}
 use borrow.Fn.PlainCycle.{Measures, is, falls, and}
 use Rattle.outline.specs.Inner.{IsRecord}
 use Rattle.outline.specs.Kept.{Later}
-use Rattle.measures.proofs.Parts.{left, left-less, no-chain, parts-addable, chain-measured}
+use Rattle.outline.proofs.Kept.{left, left-less}
+use Rattle.measures.proofs.Parts.{no-chain, parts-addable, chain-measured}
 use Rattle.measures.proofs.chain.measure_chain.Reads as measure-chain
 use Rattle.measures.proofs.chain.measure_chain.Kinds as measure-chain-kinds
 use Rattle.measures.proofs.chain.+measure_chain.Lts-measure_chain as lts

@@ -15,7 +15,7 @@ use Rattle.measures.proofs.marks.marked.Statement.{statement}
 use Rattle.measures.proofs.marks.marked.Tie as tie
 
 abbrev Inv-loop : tie.InvT-loop
-Inv-loop o marks n sum₀ r₀ sum r = Summing (λ q. one (chosen marks q)) n sum r
+Inv-loop o marks n sum₀ r₀ sum r = Summing 1 (λ q. one (chosen marks q)) n sum r
 
 abbrev μ-loop : tie.MeasureT-loop
 μ-loop o marks n sum₀ r₀ sum r = n + 1 - r

@@ -11,7 +11,7 @@ use Rattle.outline.proofs.rules.taxa_of.Statement.{statement}
 use Rattle.outline.proofs.rules.taxa_of.Tie as tie
 
 abbrev Inv-loop : tie.InvT-loop
-Inv-loop o n sum₀ r₀ sum r = Summing (λ q. one (isTaxon o q)) n sum r
+Inv-loop o n sum₀ r₀ sum r = Summing 1 (λ q. one (isTaxon o q)) n sum r
 
 abbrev μ-loop : tie.MeasureT-loop
 μ-loop o n sum₀ r₀ sum r = n + 1 - r

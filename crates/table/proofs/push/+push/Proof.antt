@@ -9,9 +9,10 @@ use borrow.Fn.Kinds.{In}
 use borrow.Fn.PlainCycle.{Measures, is, falls, and}
 use Rattle.outline.specs.Inner.{IsRecord}
 use Rattle.outline.specs.Outline.{first}
+use Rattle.outline.proofs.Kept.{left, left-less}
 use Rattle.table.specs.Table.{start, TaxonJoins}
 use Rattle.table.proofs.Places.{own-inside, terminal-fills, At, to-next, to-first}
-use Rattle.table.proofs.Pushing.{left, left-less, done-none, ready-next, base₁, joins-taxon, done-taxon}
+use Rattle.table.proofs.Pushing.{done-none, ready-next, base₁, joins-taxon, done-taxon}
 use Rattle.table.proofs.Pushing.{betters-follow, ready-first, charges, done-group}
 use Rattle.table.proofs.Terminal.{joins-kept, row-kept}
 use Rattle.table.proofs.push.push.Reads as push

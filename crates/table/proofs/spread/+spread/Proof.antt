@@ -10,10 +10,10 @@ use borrow.Fn.PlainCycle.{Measures, is, falls, and}
 use Rattle.outline.specs.Inner.{IsRecord}
 use Rattle.outline.specs.Outline.{first}
 use Rattle.laws.specs.Forest.{tree}
+use Rattle.outline.proofs.Kept.{left, left-less}
 use Rattle.table.specs.Spread.{recordsIn}
 use Rattle.table.specs.Table.{start, mostAbove}
 use Rattle.table.proofs.Places.{own-inside, At, to-next, to-first, prices-here}
-use Rattle.table.proofs.Pushing.{left, left-less}
 use Rattle.table.proofs.SpreadSteps.{records-most, spread-none, spreadable-next, taxon-spreadable, spread-taxon-done}
 use Rattle.table.proofs.SpreadSteps.{spreadable-last, charges-last, spread-last, spreadable-first, charges-first, crossable, meets}
 use Rattle.table.proofs.SpreadSteps.{spread-more}

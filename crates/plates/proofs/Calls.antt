@@ -1,0 +1,30 @@
+-- What is promised of calls of `plates_write` and `plates_read` one after the other: what is promised of `write` and `read`, of the
+-- numbers that stand in `answer`.
+use Prim.Native.Nat.{ℕ, _≤_}
+use mathlib.Core.Path.{_≡_, sym, _∙_}
+use mathlib.Core.List.{List}
+use lib.ListN.{length}
+use Rattle.diversity.specs.Order.{InTextOrder}
+use Rattle.newick.specs.Answer as read
+use Rattle.newick.specs.WriteAnswer as write
+use Rattle.newick.specs.WriteDemands.{Handed, Returned, GivenBack, Room, WroteAlike}
+use Rattle.newick.proofs.RoundTrip.{same-bytes, second-writing}
+use Rattle.plates.specs.Interface.{readIn, TextRead, writtenIn, TextWritten}
+
+-- where the records stand in text order, reading what was written gives back the same bytes
+pub written-read : {c : write.Call} {d : read.Call} {n m : ℕ} {answer text pairs answer′ outline : List ℕ}
+    → TextWritten c n answer text pairs → n ≡ 0 → InTextOrder (c .outline)
+    → Handed (writtenIn answer) text pairs d → length (c .outline) ≤ length (d .outline) → TextRead d m answer′ outline
+    → GivenBack (c .outline) d (readIn answer′) outline
+written-read x z order h long y = same-bytes (x .answered) (sym (x .number-given) ∙ z) order h long (y .answered)
+
+-- from any accepted text, a second writing equals the first
+pub written-again : {c d : read.Call} {w v : write.Call} {n m k l : ℕ} {first one second two outline again text pairs text′ pairs′ : List ℕ}
+    → TextRead c n first outline → n ≡ 0
+    → Returned (readIn first) outline w → TextWritten w m one text pairs → m ≡ 0
+    → Handed (writtenIn one) text pairs d → length (w .outline) ≤ length (d .outline) → TextRead d k second again
+    → Returned (readIn second) again v → Room (writtenIn one .bytes) (writtenIn one .pairs) v → TextWritten v l two text′ pairs′
+    → WroteAlike (writtenIn one) text pairs (writtenIn two) text′ pairs′
+written-again x z ret y e h long p ret′ room y′ =
+    second-writing (x .answered) (sym (x .number-given) ∙ z) ret (y .answered) (sym (y .number-given) ∙ e) h long (p .answered) ret′ room
+    (y′ .answered)
