@@ -101,7 +101,7 @@ module _ {o : List ℕ} {r : ℕ} (along : Along o r) (some : r ≢ 0) where
           pub chain-written : {next : ℕ} {exit : List ℕ} → Written at₃ (chainText o n) text₃ exit next → Written at (chainText o r) text exit next
           chain-written d₄ = four-written at (chainText o r) text (head o r) (chainText o f) (tail o r) (chainText o n) text-is fits d₁ d₂ d₃ d₄
 
-  -- its own pair, its members', those of the rest of the chain
+  -- its own pair, its members', those of the rest of the chain: four pieces too, of which the third is empty
   module _ (at : ℕ) (pairs : List ℕ) {f n : ℕ} (e : f ≡ first o r) (d : n ≡ next o r) (fits : LongEnough at (chainPairs o r) pairs) where
     pairs-are : chainPairs o r ≡ ownPair o r ++ (chainPairs o f ++ ([] ++ chainPairs o n))
     unfolding texts

@@ -12,7 +12,7 @@ use Rattle.lists.specs.Lists.{pick, one, total}
 use Rattle.outline.specs.Inner.{IsRecord}
 use Rattle.outline.specs.Kept.{Linked}
 use Rattle.outline.specs.Outline.{size, records, next, branch, plate, isTaxon}
-use Rattle.outline.specs.Refusals.{taxaIn, taxa}
+use Rattle.outline.specs.Refusals.{mostRecords, mostTaxa, taxaIn, taxa}
 use Rattle.laws.proofs.Chains.{total-root, clade-size}
 use Rattle.laws.proofs.Sums.{total-append}
 use Rattle.text.specs.Text.{decimal}
@@ -131,6 +131,13 @@ text-most {o} plain =
       length-append (spelling (treeOf o)) (59 ∷ []),
     )
 
+-- so at most so many, for the largest outline
+abbrev pub mostWritten : ℕ
+mostWritten = 10 * mostRecords + 8 * mostTaxa
+
+pub text-few : {o : List ℕ} → Plain o → length (outlineText o) ≤ mostWritten
+text-few {o} plain = omega (arith, text-most plain, plain .kept .size-most, plain .kept .taxa-most)
+
 -- far fewer than a text may have
 pub text-short : {o : List ℕ} → Plain o → length (outlineText o) ≤ mostBytes
-text-short {o} plain = omega (arith, text-most plain, plain .kept .size-most, plain .kept .taxa-most)
+text-short plain = omega (arith, text-few plain)

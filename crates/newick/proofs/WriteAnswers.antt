@@ -22,7 +22,7 @@ use Rattle.newick.specs.Text.{outlineText, outlinePairs}
 use Rattle.newick.specs.WriteAnswer.{Call, told, unwritable, tooShort, judged, reply, textAfter, pairsAfter, Answered}
 use Rattle.newick.specs.WriteInner.{ownBytes, Writable}
 use Rattle.newick.specs.declared.writer.Answer.{Answer}
-use Rattle.newick.proofs.OwnBytes.{text-length, text-most}
+use Rattle.newick.proofs.OwnBytes.{text-length, mostWritten, text-few}
 use Rattle.newick.proofs.Plain.{Plain}
 use Rattle.newick.proofs.Priced.{pairs-count}
 use Rattle.newick.proofs.WriteDemands.{plain-by}
@@ -68,8 +68,8 @@ module _ (c : Call) (small : Bytes (c .outline)) where
         bytes-are : b + 1 ≡ length (outlineText (c .outline))
         bytes-are = omega (arith, text-length (c .outline) (kept-by .linked))
 
-        pub bytes-few : b + 1 ≤ 1782
-        bytes-few = omega (arith, bytes-are, text-most plain, kept-by .size-most, kept-by .taxa-most)
+        pub bytes-few : b + 1 ≤ mostWritten
+        bytes-few = omega (arith, bytes-are, text-few plain)
 
         module _ {k : ℕ} (count : k ≡ taxa (c .outline)) where
           pairs-are : 2 * k ≡ length (outlinePairs (c .outline))

@@ -26,6 +26,7 @@ written-two at a b buffer h =
       next-is = refl;
     }
 
+-- nothing
 pub written-nothing : (at : ℕ) (buffer : List ℕ) → Written at [] buffer buffer at
 written-nothing at buffer = record { buffer-is = sym (over-nothing at buffer); next-is = omega arith }
 

@@ -4,8 +4,9 @@ use mathlib.Core.Path.{_≡_, refl, sym, ap, ap₂, _∙_}
 use native.Mathlib.Omega.{arith}
 use borrow.Author.Needs.{needs}
 use Rattle.refusals.specs.Refusals.{tells, refusal}
-use Rattle.outline.specs.Refusals.{mostRecords}
+use Rattle.outline.specs.Refusals.{mostRecords, mostTaxa}
 use Rattle.newick.specs.WriteAnswer.{Reply, refused, written, told}
+use Rattle.newick.proofs.OwnBytes.{mostWritten}
 use Rattle.newick.proofs.WriteBounds.{reply-few}
 use Rattle.plates.proofs.Answers.{answered-given}
 use Rattle.plates.proofs.plates_write.Statement.{statement}
@@ -29,14 +30,14 @@ cast-bytes : tie.Need-cast-t15
 cast-bytes c =
     let f = c .before in
     let e = ap (λ (r : Reply). r .bytes) (text-told f ∙ written-to f .write .ensures .told-reply) in
-    let most : f .bytes .given .0 .0 ≤ 1782 = rw e (reply-few _ .1) in
+    let most : f .bytes .given .0 .0 ≤ mostWritten = rw e (reply-few _ .1) in
     record { fits = omega arith }
 
 cast-pairs : tie.Need-cast-t16
 cast-pairs c =
     let f = c .before in
     let e = ap (λ (r : Reply). r .pairs) (text-told f ∙ written-to f .write .ensures .told-reply) in
-    let most : f .bytes .given .0 .1 .0 ≤ 64 = rw e (reply-few _ .2) in
+    let most : f .bytes .given .0 .1 .0 ≤ mostTaxa = rw e (reply-few _ .2) in
     record { fits = omega arith }
 
 cast-place : tie.Need-cast-t18
