@@ -1,4 +1,4 @@
-/* Reads tree A (see plates.h) from text, chooses its plates for 5 quarters, and prints the choice, the curve and the plates. */
+/* Reads tree A (see plates.h) from text, chooses its plates for 5 quarters, and prints the choice, the curve and the sheet. */
 #include <inttypes.h>
 #include <stdio.h>
 #include <stdlib.h>
@@ -18,19 +18,28 @@ static int refused(uint32_t number, uint32_t place) {
     return EXIT_FAILURE;
 }
 
-static void print(const uint8_t *outline, size_t records, const uint8_t *marks, const uint32_t *curve,
-                  const uint32_t *answer) {
+static void print(const uint32_t *curve, const uint32_t *answer) {
     printf("%d %d %" PRIu32 " %" PRIu32 " %" PRIu32 "\n", COUNT, PLATES_ROOTED, answer[PLATES_ANSWER_DIVERSITY],
            answer[PLATES_ANSWER_COST], answer[PLATES_ANSWER_TAXA]);
     for (size_t b = 0; b <= COUNT; b++) {
         printf("%zu %" PRIu32 " %" PRIu32 "\n", b, plates_curve_diversity(curve, b), plates_curve_cost(curve, b));
     }
-    for (size_t record = 1; record <= records; record++) {
-        if (marks[record - 1] == 1) {
-            printf("%" PRIu32 " %" PRIu32 "\n", plates_record_plate(outline, record),
-                   plates_record_price(outline, record));
-        }
+}
+
+static int print_sheet(const uint8_t *outline, size_t records, const uint8_t *marks) {
+    uint32_t sheet[PLATES_MOST_SHEET_LEN];
+    uint32_t answer[PLATES_SHEET_ANSWER_LEN];
+    uint32_t number = plates_sheet(outline, PLATES_OUTLINE_LEN(records), PLATES_ROOTED, marks, PLATES_MARKS_LEN(records),
+                                   sheet, sizeof sheet / sizeof *sheet, answer);
+    if (number != PLATES_OK) {
+        return refused(number, answer[PLATES_ANSWER_PLACE]);
     }
+    for (size_t row = 0; row < answer[PLATES_SHEET_ANSWER_ROWS]; row++) {
+        printf("%" PRIu32 " %" PRIu32 " %" PRIu32 "\n", plates_sheet_plate(sheet, row), plates_sheet_quarters(sheet, row),
+               plates_sheet_diversity(sheet, row));
+    }
+    printf("total %" PRIu32 " %" PRIu32 "\n", answer[PLATES_SHEET_ANSWER_QUARTERS], answer[PLATES_SHEET_ANSWER_DIVERSITY]);
+    return EXIT_SUCCESS;
 }
 
 static int choose(const uint8_t *outline, size_t records) {
@@ -44,8 +53,8 @@ static int choose(const uint8_t *outline, size_t records) {
                                         marks, PLATES_MARKS_LEN(records), curve, PLATES_CURVE_LEN(COUNT),
                                         work, PLATES_WORK_LEN(records, COUNT), answer);
         if (number == PLATES_OK) {
-            print(outline, records, marks, curve, answer);
-            status = EXIT_SUCCESS;
+            print(curve, answer);
+            status = print_sheet(outline, records, marks);
         } else {
             status = refused(number, answer[PLATES_ANSWER_PLACE]);
         }

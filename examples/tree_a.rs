@@ -1,5 +1,5 @@
 //! Reads tree A from text, chooses its plates for 5 quarters, and prints the choice, the curve and
-//! the plates.
+//! the sheet.
 
 use plates::{choose, Outline, Way};
 use std::error::Error;
@@ -11,13 +11,11 @@ fn main() -> Result<(), Box<dyn Error>> {
     let (count, way) = (5, Way::Rooted);
     let choice = choose(&outline, count, way)?;
 
-    let (diversity, cost, taxa) = (choice.diversity(), choice.cost(), choice.taxa());
-    println!("{count} {} {diversity} {cost} {}", way as u32, taxa.len());
+    let (diversity, cost, taxa) = (choice.diversity(), choice.cost(), choice.taxa().len());
+    println!("{count} {} {diversity} {cost} {taxa}", way as u32);
     for column in choice.curve().iter().flatten() {
         println!("{} {} {}", column.count, column.diversity, column.cost);
     }
-    for taxon in taxa {
-        println!("{} {}", taxon.plate, taxon.price);
-    }
+    println!("{}", outline.sheet(choice.marks(), way)?);
     Ok(())
 }

@@ -13,6 +13,7 @@
  *     plates_check    whether an outline is sound, and if not what is wrong and where
  *     plates_find     the record of the taxon that has a given plate
  *     plates_choose   the best taxa for a page count
+ *     plates_sheet    the taxa of a set, with the quarters and the diversity that each adds
  *
  * Link with libplates.a (-lplates). It needs nothing but memcpy and memset, which every C library has.
  *
@@ -25,6 +26,8 @@
  *     quarter    a quarter page, the unit of prices and of page counts
  *     locked     said of a taxon that must be in the guide, such as a species on its jacket: every choice has it
  *     outline    the tree, as an array of records
+ *     marks      a set of taxa, as a number for each record: 1 for a taxon of the set, 0 for every other record
+ *     sheet      the taxa of a set in record order, each with its plate, the quarters and the diversity that it adds
  *
  *
  * THE OUTLINE
@@ -158,18 +161,41 @@
  * rooted, would be 0, 0, 5, 10, 10, 12, and their costs 4,294,967,295, 4,294,967,295, 2, 3, 3, 5.
  *
  *
+ * THE SHEET
+ *
+ * plates_sheet lists the taxa of a marked set in record order, so that the foot of a page can be checked against the panel. Each
+ * has a row of three numbers: its plate, the quarters that it adds to those before it, and the diversity that it adds to them.
+ * So the k-th row has the cost of the first k taxa less that of the first k - 1, and the same of their diversity: a heading is
+ * charged to the first taxon of the set that is below it, and unrooted the first row has diversity 0.
+ *
+ * For plates 11 and 13 of tree A the rows, and below them the sums of the quarters and of the diversity, are
+ *
+ *     rooted       unrooted     rooted, if group 2 had a heading of 2 quarters
+ *
+ *     11  3   7    11  3   0    11  5   7
+ *     13  2   5    13  2  12    13  2   5
+ *
+ *         5  12        5  12        7  12
+ *
+ * The sums are the cost and the diversity of the set. The marks that plates_choose has written can be handed over as they are:
+ * with the same way the sums are the cost and the diversity of its answer. But any set of taxa may be marked by hand, the empty
+ * one too. It need not fit a page count, nor have the locked taxa.
+ *
+ *
  * WHAT THE CALLER HAS TO KEEP
  *
- * marks, curve and work are lent space, and so are the outline of plates_read and the text and pairs of plates_write: buffers
- * that a result is written to, and that a refusal leaves as they were. answer and place are no lent space. They carry the
- * numbers that a call gives, so they are written in any case, on a refusal too.
+ * marks, curve and work of plates_choose are lent space, and so are the outline of plates_read, the text and pairs of
+ * plates_write and the sheet of plates_sheet: buffers that a result is written to, and that a refusal leaves as they were.
+ * answer and place are no lent space. They carry the numbers that a call gives, so they are written in any case, on a refusal
+ * too.
  *
  * - No pointer is null, not even where the length is 0, and each points to at least as many elements as its length says.
- *   Lengths are numbers of elements: text_len, outline_len and marks_len in bytes, pairs_len and curve_len in uint32_t,
- *   work_len in uint64_t. The answer of plates_choose has 6 elements, that of plates_read has 3, that of plates_write has
- *   4, place has 1.
+ *   Lengths are numbers of elements: text_len, outline_len and marks_len in bytes, pairs_len, curve_len and sheet_len in
+ *   uint32_t, work_len in uint64_t. The answer of plates_choose has 6 elements, that of plates_read has 3, that of plates_write
+ *   has 4, that of plates_sheet has 5, place has 1.
  * - Each pointer is aligned as its element type asks. text, outline and marks may begin at any byte.
- * - What a call writes (lent space, answer, place) overlaps nothing else that it is handed.
+ * - What a call writes (lent space, answer, place) overlaps nothing else that it is handed. What it only reads may overlap: the
+ *   outline and the marks of plates_sheet may be the same memory.
  * - While a call runs, nobody else writes what it is handed, and nobody else reads what it writes.
  *
  * What stands before a call where it writes makes no difference; that need not be initialised.
@@ -177,17 +203,18 @@
  *
  * WHAT THE LIBRARY KEEPS
  *
- * - Any bytes may be handed over as an outline or a text, and any numbers as pairs, count, way and lengths: what is not sound
- *   is refused, and a refusal of the table below is the only way for a call to fail.
+ * - Any bytes may be handed over as an outline, a text or the marks of plates_sheet, and any numbers as pairs, count, way and
+ *   lengths: what is not sound is refused, and a refusal of the table below is the only way for a call to fail.
  * - Nothing is allocated, no file is touched, and there is no global state. Calls on different buffers may run at the same
- *   time, and may share an outline.
- * - Nothing is written but what is named at each function, and no byte 0 behind a text. Only plates_read writes an outline.
- * - The time of a call is bounded. That of plates_choose grows linearly with the count; checking and finding take at most a few
- *   steps for each pair of records, writing also for each byte of the text, and reading also for each byte of the text and for
- *   each record with each pair of numbers.
- * - Little stack is used, since the table stands in work: choosing and writing nest no deeper than there are records, which
- *   takes less than 64 KB on x86-64 for the deepest outlines. Reading a text takes less than 70 KB, however deep it is: its
- *   calls nest for 127 records, and no deeper.
+ *   time, and may share what they only read.
+ * - Nothing is written but what is named at each function, and no byte 0 behind a text. Only plates_read writes an outline, and
+ *   only plates_choose writes marks.
+ * - The time of a call is bounded. That of plates_choose grows linearly with the count; checking, finding and the sheet take at
+ *   most a few steps for each pair of records, writing also for each byte of the text, and reading also for each byte of the
+ *   text and for each record with each pair of numbers.
+ * - Little stack is used, since the table stands in work: choosing, writing and the sheet nest no deeper than there are records,
+ *   which takes less than 64 KB on x86-64 for the deepest outlines. Reading a text takes less than 70 KB, however deep it is:
+ *   its calls nest for 127 records, and no deeper.
  */
 #ifndef PLATES_H
 #define PLATES_H
@@ -232,12 +259,14 @@ extern "C" {
  *     marks     bytes       PLATES_MARKS_LEN(records)
  *     curve     uint32_t    PLATES_CURVE_LEN(count)
  *     work      uint64_t    PLATES_WORK_LEN(records, count)
+ *     sheet     uint32_t    PLATES_SHEET_LEN(taxa)
  *
  * text is that of plates_write, and its length one that always suffices: 18 bytes for each taxon and 10 for each group, as many
- * as there are where every plate has 9 digits and every length 7. The other lengths are exact.
+ * as there are where every plate has 9 digits and every length 7. The other lengths are exact; the taxa of the sheet are those
+ * of the marked set.
  *
- * answer is no buffer, and always has PLATES_ANSWER_LEN uint32_t, for plates_read PLATES_READ_ANSWER_LEN and for plates_write
- * PLATES_WRITE_ANSWER_LEN: see below.
+ * answer is no buffer, and always has PLATES_ANSWER_LEN uint32_t, for plates_read PLATES_READ_ANSWER_LEN, for plates_write
+ * PLATES_WRITE_ANSWER_LEN and for plates_sheet PLATES_SHEET_ANSWER_LEN: see below.
  */
 #define PLATES_OUTLINE_LEN(records) (PLATES_CAST_(size_t, PLATES_RECORD_BYTES) * PLATES_CAST_(size_t, records))
 #define PLATES_PAIRS_LEN(taxa) (PLATES_CAST_(size_t, 2) * PLATES_CAST_(size_t, taxa))
@@ -247,6 +276,7 @@ extern "C" {
 #define PLATES_CURVE_LEN(count) (PLATES_CAST_(size_t, 2) * (PLATES_CAST_(size_t, count) + 1))
 #define PLATES_WORK_LEN(records, count) \
     (PLATES_CAST_(size_t, 4) * (PLATES_CAST_(size_t, records) + 2) * (PLATES_CAST_(size_t, count) + 1))
+#define PLATES_SHEET_LEN(taxa) (PLATES_CAST_(size_t, 3) * PLATES_CAST_(size_t, taxa))
 
 /* The same for the largest outline and the largest count: enough for every call. No text that is written has more
  * than 1,782 bytes. The most work is 16,912,416 bytes, more than a usual stack has. */
@@ -256,19 +286,20 @@ extern "C" {
 #define PLATES_MOST_MARKS_LEN PLATES_MARKS_LEN(PLATES_MOST_RECORDS)
 #define PLATES_MOST_CURVE_LEN PLATES_CURVE_LEN(PLATES_MOST_COUNT)
 #define PLATES_MOST_WORK_LEN PLATES_WORK_LEN(PLATES_MOST_RECORDS, PLATES_MOST_COUNT)
+#define PLATES_MOST_SHEET_LEN PLATES_SHEET_LEN(PLATES_MOST_TAXA)
 
-/* The ways, as plates_choose takes them. */
+/* The ways, as plates_choose and plates_sheet take them. */
 enum plates_way {
     PLATES_ROOTED = 0,
     PLATES_UNROOTED = 1
 };
 
 /*
- * What plates_read, plates_write, plates_check and plates_choose give: PLATES_OK or a refusal. Refusals are judged in an order,
- * that of their numbers unless the function says another, and the first that holds is given. A refusal has a place: the number
- * of the record at fault, from 1, or 0 where no one record is.
+ * What plates_read, plates_write, plates_check, plates_choose and plates_sheet give: PLATES_OK or a refusal. Refusals are judged
+ * in an order, that of their numbers unless the function says another, and the first that holds is given. A refusal has a place:
+ * the number of the record at fault, from 1, or 0 where no one record is.
  *
- * Later versions add refusals, with numbers from 14 on. So treat any number other than PLATES_OK as a refusal, also one that is
+ * Later versions add refusals, with numbers from 15 on. So treat any number other than PLATES_OK as a refusal, also one that is
  * not named here: give a switch over these a default.
  */
 enum plates_refusal {
@@ -292,8 +323,9 @@ enum plates_refusal {
     PLATES_TOO_MANY_TAXA = 7,
     /* An earlier taxon has the same plate, whatever their locks; place is the lowest such record, so the later of the two. */
     PLATES_DUPLICATE_PLATE = 8,
-    /* marks, curve or work is shorter than PLATES_MARKS_LEN, PLATES_CURVE_LEN or PLATES_WORK_LEN says, or the outline of
-     * plates_read than PLATES_OUTLINE_LEN says, or the text or the pairs of plates_write than what is to be written; place 0. */
+    /* marks, curve or work of plates_choose is shorter than PLATES_MARKS_LEN, PLATES_CURVE_LEN or PLATES_WORK_LEN says, or the
+     * outline of plates_read than PLATES_OUTLINE_LEN says, or the text or the pairs of plates_write than what is to be written,
+     * or the sheet than PLATES_SHEET_LEN says; place 0. */
     PLATES_BUFFER_TOO_SHORT = 9,
     /* The text is no tree in the form above, or has more than 16,384 bytes; place 0. */
     PLATES_BAD_TEXT = 10,
@@ -305,7 +337,10 @@ enum plates_refusal {
     PLATES_LOCKED_TOO_DEAR = 12,
     /* The record has what a text has no form for: it is a group whose price is above 0, or a taxon that is locked or whose plate
      * is above 999,999,999; place is the lowest such record. It is judged after 8 and before 9. */
-    PLATES_UNWRITABLE = 13
+    PLATES_UNWRITABLE = 13,
+    /* There are fewer marks than records, whatever they are; place 0. Or the record's mark is neither 0 nor 1, or it is 1 and
+     * the record is a group; place is the lowest such record. It is judged after 8 and before 9. */
+    PLATES_BAD_MARKS = 14
 };
 
 /* What stands where in the answer of plates_choose. */
@@ -345,6 +380,18 @@ enum plates_write_answer {
     PLATES_WRITE_ANSWER_LEN = 4
 };
 
+/* The same for plates_sheet, whose number and place stand there too. */
+enum plates_sheet_answer {
+    /* How many rows the sheet has, one for each taxon of the set. This and what follows are 0 for a refusal. */
+    PLATES_SHEET_ANSWER_ROWS = 2,
+    /* The sum of the rows' quarters: the cost of the set. */
+    PLATES_SHEET_ANSWER_QUARTERS = 3,
+    /* The sum of the rows' diversity: that of the set. */
+    PLATES_SHEET_ANSWER_DIVERSITY = 4,
+    /* The number of elements. */
+    PLATES_SHEET_ANSWER_LEN = 5
+};
+
 /*
  * Reads a tree from text, with its prices beside it, and writes its outline.
  *
@@ -380,8 +427,8 @@ uint32_t plates_write(const uint8_t *outline, size_t outline_len, uint8_t *text,
 /*
  * Whether an outline is sound.
  *
- * Gives PLATES_OK, or the first of refusals 2, 3 and 5 to 8 that holds (the others concern reading, writing or choosing).
- * *place is written in any case: the refusal's place, 0 for PLATES_OK.
+ * Gives PLATES_OK, or the first of refusals 2, 3 and 5 to 8 that holds (the others concern other calls). *place is written
+ * in any case: the refusal's place, 0 for PLATES_OK.
  */
 uint32_t plates_check(const uint8_t *outline, size_t outline_len, uint32_t *place);
 
@@ -408,6 +455,22 @@ uint32_t plates_find(const uint8_t *outline, size_t outline_len, uint32_t plate)
 uint32_t plates_choose(const uint8_t *outline, size_t outline_len, uint32_t count, uint32_t way,
                        uint8_t *marks, size_t marks_len, uint32_t *curve, size_t curve_len,
                        uint64_t *work, size_t work_len, uint32_t answer[6]);
+
+/*
+ * Lists the taxa of a marked set, with what each adds.
+ *
+ * Gives PLATES_OK, or the first of refusals 1, 2, 3, 5 to 8, 14 and 9 that holds, in this order, and writes all five elements of
+ * answer in any case. marks is read here: for each record 1 if it is a taxon of the set, else 0; record r stands at
+ * marks[r - 1]. Marks beyond the records are not looked at. On PLATES_OK, for R rows:
+ *
+ *     sheet   the first 3 * R: for each taxon of the set, in record order, its plate without the lock, the quarters and the
+ *             diversity that it adds
+ *
+ * Elements beyond these stay as they were, so the sheet may be longer than needed. On a refusal all of it stays as it was. A
+ * sheet of PLATES_MOST_SHEET_LEN numbers has room for every set.
+ */
+uint32_t plates_sheet(const uint8_t *outline, size_t outline_len, uint32_t way,
+                      const uint8_t *marks, size_t marks_len, uint32_t *sheet, size_t sheet_len, uint32_t answer[5]);
 
 /* A number in one to four bytes, least significant first. For the functions below. */
 static inline void plates_put_field_(uint8_t *at, size_t bytes, uint32_t value) {
@@ -477,6 +540,19 @@ static inline uint32_t plates_curve_diversity(const uint32_t *curve, size_t coun
 
 static inline uint32_t plates_curve_cost(const uint32_t *curve, size_t count) {
     return curve[2 * count + 1];
+}
+
+/* The three numbers of row `row` (from 0), which the sheet has to have. */
+static inline uint32_t plates_sheet_plate(const uint32_t *sheet, size_t row) {
+    return sheet[3 * row];
+}
+
+static inline uint32_t plates_sheet_quarters(const uint32_t *sheet, size_t row) {
+    return sheet[3 * row + 1];
+}
+
+static inline uint32_t plates_sheet_diversity(const uint32_t *sheet, size_t row) {
+    return sheet[3 * row + 2];
 }
 
 #ifdef __cplusplus

@@ -72,7 +72,7 @@ fn drawn(name: &str, mut records: Vec<Record>, seed: u64, dearest: u32) -> Insta
     }
 }
 
-/// Numbers for a text, where no budget has to be tight: a taxon may be free.
+/// Numbers for a text or a sheet, where no budget has to be tight: a taxon may be free.
 pub fn filled(mut records: Vec<Record>, random: &mut Random) -> Vec<Record> {
     let length = |random: &mut Random| random.up_to(LONGEST);
     shapes::fill(&mut records, random, length, |random| random.up_to(DEAREST));
@@ -80,9 +80,13 @@ pub fn filled(mut records: Vec<Record>, random: &mut Random) -> Vec<Record> {
 }
 
 /// Gives every group a price of 1 to the dearest.
-fn with_headings(mut instance: Instance, seed: u64) -> Instance {
+pub fn fill_headings(records: &mut [Record], random: &mut Random) {
     let price = |random: &mut Random| 1 + random.up_to(DEAREST_HEADING - 1);
-    headings::fill(&mut instance.records, &mut Random::new(seed), price);
+    headings::fill(records, random, price);
+}
+
+fn with_headings(mut instance: Instance, seed: u64) -> Instance {
+    fill_headings(&mut instance.records, &mut Random::new(seed));
     instance
 }
 

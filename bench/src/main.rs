@@ -1,12 +1,14 @@
-//! Measures `plates_choose` beside clearing `work`, IQ-TREE 2, GLPK and two tables in Rust, `plates_read` beside a plain reader
-//! in Rust and `plates_write` beside a plain writer in Rust, and prints the times in Markdown. With `--beside` it measures
-//! `plates_choose` beside another build's instead, to see what a change costs.
+//! Measures `plates_choose` beside clearing `work`, IQ-TREE 2, GLPK and two tables in Rust, and `plates_read`, `plates_write` and
+//! `plates_sheet` beside a plain reader, a plain writer and a plain lister in Rust, and prints the times in Markdown. With
+//! `--beside` it measures `plates_choose` beside another build's instead, to see what a change costs.
 
 mod beside;
 mod case;
 mod glpk;
 mod instances;
 mod iqtree;
+mod lister;
+mod listing;
 mod machine;
 mod plain;
 mod reader;
@@ -21,6 +23,7 @@ mod writing;
 use beside::Build;
 use case::{Buffers, Case};
 use instances::COUNT;
+use listing::Listing;
 use reading::Reading;
 use report::Missing;
 use scratch::Scratch;
@@ -90,9 +93,11 @@ fn run(plan: &Plan) -> Result<(), String> {
     }
     let readings = measured(plan, reading::all(), Reading::measure);
     let writings = measured(plan, writing::all(), Writing::measure);
+    let listings = measured(plan, listing::all(), Listing::measure);
     print(plan, &groups, &sizes);
     report::readings(&readings);
     report::writings(&writings);
+    report::listings(&listings);
     Ok(())
 }
 
@@ -152,7 +157,7 @@ fn measure(
     Ok(())
 }
 
-/// The readings or the writings, with their times.
+/// The readings, the writings or the listings, with their times.
 fn measured<T>(plan: &Plan, mut all: Vec<T>, measure: impl Fn(&mut T)) -> Vec<T> {
     for _ in 0..plan.rounds {
         for one in &mut all {

@@ -3,6 +3,7 @@
 use crate::beside::Pair;
 use crate::case::Case;
 use crate::glpk;
+use crate::listing::{self, Listing};
 use crate::reading::{self, Reading};
 use crate::times::{digits, microseconds, milliseconds, Times};
 use crate::writing::{self, Writing};
@@ -54,6 +55,14 @@ with 13. The second has pairs of pairs, plates of 9 digits and lengths of 1,000,
 group is a taxon and then the rest: no outline of 64 taxa is deeper.
 ";
 
+const LISTING: &str = "\
+Medians in microseconds. The plain lister is Rust. It goes up from each taxon of the set, in record order, to the first record that
+an earlier one has opened, and unrooted also from where the earlier ones meet, so that it passes no record more than twice; it gives
+the same refusals, and the check of the outline is that of plates. Both are called in turn; \"times\" says how many times as long
+plates takes. All groups have prices. The first outline is a random tree; of its taxa all are marked, every fourth, or none. In the
+last set the last mark is 2, and it is refused with 14.
+";
+
 const BUILDS: &str = "\
 Microseconds for `plates_choose`. Both builds are called in turn on the same buffers. The ratios are of this build's times to the
 other's. An outline with headings is left out where the other build refuses it.
@@ -74,8 +83,8 @@ fn words<const N: usize>(words: [&str; N]) -> Vec<String> {
     words.map(str::to_string).to_vec()
 }
 
-fn way(case: &Case) -> String {
-    WAYS[case.way as usize].to_string()
+fn way(way: u32) -> String {
+    WAYS[way as usize].to_string()
 }
 
 fn in_milliseconds(seconds: Option<f64>) -> String {
@@ -115,7 +124,7 @@ fn row(case: &Case, missing: &Missing) -> Vec<String> {
     let search = &case.iqtree.search;
     let mut row = vec![
         case.name.clone(),
-        way(case),
+        way(case.way),
         in_milliseconds(case.plates.shortest()),
         in_milliseconds(median),
         in_milliseconds(case.clearing.shortest()),
@@ -170,7 +179,7 @@ fn count_row(group: &[Case]) -> Vec<String> {
         })
     };
     let cases = group.iter();
-    let mut row = vec![group[0].name.clone(), way(&group[0])];
+    let mut row = vec![group[0].name.clone(), way(group[0].way)];
     row.extend(
         cases
             .clone()
@@ -194,7 +203,7 @@ pub fn growth_with_records(cases: &[Case]) {
         let per_record = seconds.map(|seconds| microseconds(seconds / records as f64));
         vec![
             case.name.clone(),
-            way(case),
+            way(case.way),
             records.to_string(),
             in_milliseconds(seconds),
             per_record.unwrap_or_default(),
@@ -333,6 +342,35 @@ fn writing_row(writing: &Writing) -> Vec<String> {
     row
 }
 
+pub fn listings(listings: &[Listing]) {
+    println!("### Listing sheets\n\n{LISTING}");
+    let head = words([
+        "set",
+        "way",
+        "records",
+        "rows",
+        "plates",
+        "plain lister",
+        "times",
+    ]);
+    let rows: Vec<_> = listings.iter().map(listing_row).collect();
+    print_table(&head, &rows);
+    print_agreement("plain lister", listing::agreement(listings));
+}
+
+fn listing_row(listing: &Listing) -> Vec<String> {
+    let times = [listing.plates.median(), listing.plain.median()];
+    let mut row = vec![
+        listing.name.to_string(),
+        way(listing.way),
+        listing.records.to_string(),
+        listing.rows.to_string(),
+    ];
+    row.extend(times.map(|time| time.map_or(String::new(), microseconds)));
+    row.push(ratio(times[0], times[1]));
+    row
+}
+
 /// A ratio near 1.
 fn thousandths(one: Option<f64>, other: Option<f64>) -> String {
     one.zip(other)
@@ -368,7 +406,7 @@ fn pair_row(pair: &Pair) -> Vec<String> {
     ];
     let mut row = vec![
         pair.case.name.clone(),
-        way(&pair.case),
+        way(pair.case.way),
         pair.case.count.to_string(),
     ];
     row.extend(times.map(|time| time.map_or(String::new(), microseconds)));

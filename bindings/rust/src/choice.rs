@@ -73,7 +73,8 @@ impl Choice {
         &self.taxa
     }
 
-    /// For each record, in order, 1 if it is a chosen taxon, else 0.
+    /// For each record, in order, 1 if it is a chosen taxon, else 0: as [`Outline::sheet`] takes
+    /// them.
     #[must_use]
     pub fn marks(&self) -> &[u8] {
         &self.marks

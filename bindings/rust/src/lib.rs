@@ -12,9 +12,10 @@
 //! [`Outline::from_newick`], or made from a [`Tree`], which is built by nesting; groups whose
 //! headings take space are built with [`Tree::headed_group`], and locked taxa with
 //! [`Tree::locked_taxon`]. [`choose`], also a method of the outline, gives a [`Choice`] for an
-//! outline, a page count and a [`Way`]. [`Outline::to_newick`] writes an outline as text again, to
-//! return a tree to its author. What is wrong with a text, an outline or a page count is told as a
-//! [`Refusal`].
+//! outline, a page count and a [`Way`]. [`Outline::sheet`] lists the taxa of a choice, or of any
+//! other set, with what each adds in quarters and in diversity. [`Outline::to_newick`] writes an
+//! outline as text again, to return a tree to its author. What is wrong with a text, an outline, a
+//! page count or marks is told as a [`Refusal`].
 //!
 //! ```
 //! use plates::{Outline, Tree, Way};
@@ -38,6 +39,10 @@
 //! let plates: Vec<u32> = choice.taxa().iter().map(|taxon| taxon.plate).collect();
 //! assert_eq!(plates, [11, 13]);
 //! assert_eq!((choice.diversity(), choice.cost()), (12, 5));
+//!
+//! // Each plate with its quarters and its diversity, and their sums.
+//! let sheet = outline.sheet(choice.marks(), Way::Rooted)?;
+//! assert_eq!(sheet.to_string(), "11 3 7\n13 2 5\ntotal 5 12");
 //! # Ok::<(), Box<dyn std::error::Error>>(())
 //! ```
 //!
@@ -52,6 +57,7 @@ mod choice;
 mod newick;
 mod outline;
 mod refusal;
+mod sheet;
 pub mod sys;
 mod tree;
 
@@ -59,6 +65,7 @@ pub use choice::{choose, choose_in, Choice, Column, Way, Work, MOST_COUNT};
 pub use newick::{Newick, MOST_TEXT_LEN};
 pub use outline::{Outline, Record, MOST_PLATE, MOST_RECORDS, MOST_TAXA, RECORD_BYTES};
 pub use refusal::Refusal;
+pub use sheet::{Row, Sheet};
 pub use tree::{Tree, TreeError};
 
 /// Runs the example of the README.

@@ -5,16 +5,17 @@ use std::fmt;
 
 /// Why an outline, a text or a call is refused. Where several reasons hold, the first in this order
 /// is given, but for two things: reading a text has an order of its own, which
-/// [`Outline::from_newick`](crate::Outline::from_newick) says, and in writing one, number 13 is
-/// judged before 9.
+/// [`Outline::from_newick`](crate::Outline::from_newick) says, and numbers 13 and 14 are judged
+/// before 9.
 ///
-/// The library's table of refusals grows: later versions add numbers from 14 on. So a `match` has
+/// The library's table of refusals grows: later versions add numbers from 15 on. So a `match` has
 /// an arm for the rest, and a number that these bindings do not know is a refusal all the same, as
 /// [`Other`](Refusal::Other).
 ///
 /// Through the safe interface only some of them arise: the bytes of an [`Outline`](crate::Outline)
 /// are refused with numbers 2, 3 and 5 to 8, a text with 3, 5, 7, 8, 10 and 11, choosing with
-/// numbers 4 and 12, writing with 13. Numbers 1 and 9 are for those who call [`sys`](crate::sys).
+/// numbers 4 and 12, writing with 13, listing a sheet with 14. Numbers 1 and 9 are for those who
+/// call [`sys`](crate::sys).
 ///
 /// ```
 /// use plates::{Outline, Refusal};
@@ -59,7 +60,7 @@ pub enum Refusal {
         record: u32,
     },
     /// 9: marks, curve or work is too short, or the outline to read a text to, or the text or pairs
-    /// to write to.
+    /// to write to, or the sheet.
     BufferTooShort,
     /// 10: the text is no tree in the form that
     /// [`Outline::from_newick`](crate::Outline::from_newick) reads, or has more than 16,384 bytes.
@@ -75,6 +76,12 @@ pub enum Refusal {
     Unwritable {
         /// The lowest such record, from 1.
         record: u32,
+    },
+    /// 14: there are fewer marks than records; or a mark is neither 0 nor 1, or is 1 at a group.
+    BadMarks {
+        /// The lowest record with such a mark, from 1; `None` where there are fewer marks than
+        /// records, whatever they are.
+        record: Option<u32>,
     },
     /// A number that these bindings do not know, from a later version of the library. A later
     /// version of the bindings may have a name for it.
@@ -118,6 +125,9 @@ impl Refusal {
             11 => Refusal::BadPairs,
             12 => Refusal::LockedTooDear,
             13 => Refusal::Unwritable { record: place },
+            14 => Refusal::BadMarks {
+                record: (place != 0).then_some(place),
+            },
             _ => Refusal::Other { number, place },
         })
     }
@@ -147,6 +157,7 @@ impl Refusal {
             Refusal::BadPairs => 11,
             Refusal::LockedTooDear => 12,
             Refusal::Unwritable { .. } => 13,
+            Refusal::BadMarks { .. } => 14,
             Refusal::Other { number, .. } => number,
         }
     }
@@ -159,6 +170,7 @@ impl Refusal {
             | Refusal::BadLink { record }
             | Refusal::DuplicatePlate { record }
             | Refusal::Unwritable { record } => Some(record),
+            Refusal::BadMarks { record } => record,
             Refusal::Other { place, .. } if place != 0 => Some(place),
             _ => None,
         }
@@ -184,7 +196,9 @@ impl fmt::Display for Refusal {
             }
             Refusal::TooManyTaxa => "the outline has more than 64 taxa",
             Refusal::DuplicatePlate { .. } => "an earlier taxon has the same plate",
-            Refusal::BufferTooShort => "marks, curve, work, outline, text or pairs is too short",
+            Refusal::BufferTooShort => {
+                "marks, curve, work, outline, text, pairs or sheet is too short"
+            }
             Refusal::BadText => "the text is no tree in Newick form, or has more than 16384 bytes",
             Refusal::BadPairs => {
                 "a taxon has no price or more than one, or a price is for a plate that no taxon has"
@@ -196,6 +210,10 @@ impl fmt::Display for Refusal {
                 "it has a heading's price, a lock or a plate of more than 9 digits, for which a \
                  text has no form"
             }
+            Refusal::BadMarks { record: Some(_) } => {
+                "its mark is neither 0 nor 1, or is 1 at a group"
+            }
+            Refusal::BadMarks { record: None } => "there are fewer marks than records",
             Refusal::Other { number, .. } => {
                 return write!(f, "refusal {number}, which these bindings do not know");
             }

@@ -4,10 +4,11 @@
 //! What each function gives and writes is said in `plates.h`. In short: pointers are not null (also
 //! where a length is 0), each points to as many elements as its length says and is aligned for
 //! them, and what is written overlaps nothing else. Nothing else is asked of the caller, whatever
-//! the outline or the text holds. A refusal leaves the lent buffers (`marks`, `curve`, `work`, the
-//! `outline` of `plates_read`, and the `text` and `pairs` of `plates_write`) as they were; `answer`
-//! and `place` carry the numbers given and are written in any case. Every number but 0 is a
-//! refusal, and later versions add some.
+//! the outline, the text or the marks hold. A refusal leaves the lent buffers (`marks`, `curve` and
+//! `work` of `plates_choose`, the `outline` of `plates_read`, the `text` and `pairs` of
+//! `plates_write`, and the `sheet` of `plates_sheet`) as they were; `answer` and `place` carry the
+//! numbers given and are written in any case. Every number but 0 is a refusal, and later versions
+//! add some.
 //!
 //! ```
 //! use plates::sys;
@@ -121,6 +122,28 @@ extern "C" {
         work_len: usize,
         answer: *mut u32,
     ) -> u32;
+
+    /// Lists the taxa of a marked set, with what each adds: gives 0 or the refusal's number, and in
+    /// any case writes the five numbers of `answer` (number, place, rows, quarters, diversity).
+    /// Unless it refuses, it also writes the rows to the beginning of `sheet`, three numbers for
+    /// each (plate, quarters, diversity).
+    ///
+    /// # Safety
+    ///
+    /// `outline` and `marks` can be read for `outline_len` and `marks_len` bytes. `sheet` and
+    /// `answer` can be written for `sheet_len` numbers and 5 numbers. None of the pointers is null,
+    /// each is aligned for its elements, and neither `sheet` nor `answer` overlaps the other or what
+    /// is read. `outline` and `marks` may overlap.
+    pub fn plates_sheet(
+        outline: *const u8,
+        outline_len: usize,
+        way: u32,
+        marks: *const u8,
+        marks_len: usize,
+        sheet: *mut u32,
+        sheet_len: usize,
+        answer: *mut u32,
+    ) -> u32;
 }
 
 /// How many bytes of text always suffice for writing. The pairs need two numbers for each taxon.
@@ -129,7 +152,7 @@ pub const fn written_len(records: usize, taxa: usize) -> usize {
     10 * records + 8 * taxa
 }
 
-/// How many bytes of marks choosing needs.
+/// How many bytes of marks choosing and listing need.
 #[must_use]
 pub const fn marks_len(records: usize) -> usize {
     records
@@ -147,4 +170,10 @@ pub const fn curve_len(count: u32) -> usize {
 #[must_use]
 pub const fn work_len(records: usize, count: u32) -> usize {
     4 * (records + 2) * (count as usize + 1)
+}
+
+/// How many numbers of sheet listing needs, for so many taxa in the set.
+#[must_use]
+pub const fn sheet_len(taxa: usize) -> usize {
+    3 * taxa
 }

@@ -15,7 +15,7 @@ use Rattle.refusals.specs.Refusals.{refusal, row}
 use Rattle.refusals.specs.declared.verdict.Refusal.{Refusal}
 use Rattle.refusals.proofs.Refusals.{both-pass, row-fails, refusal-not-zero}
 use Rattle.refusals.proofs.Placed.{Placed, row-placed, then-placed}
-use Rattle.outline.specs.Refusals.{mostRecords, sizeRows, recordRows}
+use Rattle.outline.specs.Refusals.{mostRecords, sizeRows, recordRows, checked}
 use Rattle.outline.proofs.Kept.{rows-kept}
 use Rattle.outline.proofs.Placed.{sizes-placed, records-placed}
 use Rattle.diversity.specs.Search.{noneFits}
@@ -59,6 +59,11 @@ module _ (c : Call) where
       go true p b q h = inl (eqb-true _ _ p)
       go false p true q h = inr (eqb-true _ _ q)
       go false p false q h = absurd (false≢true (sym h))
+
+  -- the check accepts its outline
+  pub selected-accepted : isSelected c ≡ true → checked (c .outline) .number ≡ 0
+  unfolding checked
+  selected-accepted e = rw (rows-pass e .sizes) (rows-pass e .rows)
 
   pub selected-solvable : isSelected c ≡ true → Solvable c
   unfolding tooShort

@@ -19,15 +19,20 @@ within-taxon : (o s : List ℕ) (r : ℕ) → isTaxon o r ≡ true → within o 
 unfolding within clade anywhere
 within-taxon o s r t = rw (eqb-true (first o r) 0 t, chain-none (size o) o) (or-false (chosen s r))
 
--- the cost of a set of taxa: its prices, and the prices of the groups that have one of them below
-pub cost-opened : (o s : List ℕ) → IsSet o s → cost o s ≡ pricesChosen o s + headingsOpened o s
+-- what costs where no group is chosen: the prices chosen, and the prices of the groups that have one of them below
+pub cost-parts : (o s : List ℕ) → ((r : ℕ) → 1 ≤ r → r ≤ size o → isTaxon o r ≡ false → chosen s r ≡ false)
+    → cost o s ≡ pricesChosen o s + headingsOpened o s
 unfolding cost pricesChosen headingsOpened records within clade anywhere opens
-cost-opened o s x = total-ext _ _ 1 (size o) (λ r l u. go r l (omega arith) (isTaxon o r) refl) ∙ total-add _ _ (records o)
+cost-parts o s unchosen = total-ext _ _ 1 (size o) (λ r l u. go r l (omega arith) (isTaxon o r) refl) ∙ total-add _ _ (records o)
   where
     go : (r : ℕ) → 1 ≤ r → r ≤ size o → (t : Bool) → isTaxon o r ≡ t
         → pick (within o s r) (price o r) 0 ≡ pick (chosen s r) (price o r) 0 + pick (opens o s r) (price o r) 0
     go r l u true t = rw (within-taxon o s r t, t) (omega arith)
-    go r l u false t = rw (t, group-unchosen o s x r l u t) (omega arith)
+    go r l u false t = rw (t, unchosen r l u t) (omega arith)
+
+-- the cost of a set of taxa
+pub cost-opened : (o s : List ℕ) → IsSet o s → cost o s ≡ pricesChosen o s + headingsOpened o s
+cost-opened o s x = cost-parts o s (group-unchosen o s x)
 
 -- where every heading is free, any marks cost their prices
 pub free-headings : (o s : List ℕ) → FreeHeadings o → cost o s ≡ pricesChosen o s

@@ -15,6 +15,7 @@ pub mod Numbers
 pub mod Optimum
 pub mod Order
 pub mod Paths
+pub mod Prefixes
 pub mod SetOrder
 pub mod Spare
 pub mod Subtrees

@@ -19,11 +19,11 @@ implies-or true b c d p q e = rw (p refl)
 implies-or false b true d p q e = refl
 implies-or false b false d p q e = q e
 
-implies-and : (a b c d : Bool) → Implies a c → Implies b d → Implies (a && b) (c && d)
+pub implies-and : (a b c d : Bool) → Implies a c → Implies b d → Implies (a && b) (c && d)
 implies-and true b c d p q e = rw (p refl) (q e)
 implies-and false b c d p q e = absurd (false≢true e)
 
-implies-anywhere : (p q : ℕ → Bool) → ((x : ℕ) → Implies (p x) (q x)) → (xs : List ℕ) → Implies (anywhere p xs) (anywhere q xs)
+pub implies-anywhere : (p q : ℕ → Bool) → ((x : ℕ) → Implies (p x) (q x)) → (xs : List ℕ) → Implies (anywhere p xs) (anywhere q xs)
 unfolding anywhere
 implies-anywhere p q h [] e = e
 implies-anywhere p q h (x ∷ xs) e = implies-or (p x) (anywhere p xs) (q x) (anywhere q xs) (h x) (implies-anywhere p q h xs) e
@@ -56,6 +56,11 @@ module _ (o s t : List ℕ) (more : (r : ℕ) → Implies (chosen s r) (chosen t
   unfolding cost
   cost-more = total-below _ _ (records o) (λ r. implies-pick (within o s r) (within o t r) (price o r) (within-more r))
 
--- two lists of marks that choose alike cost the same
-pub cost-alike : (o s t : List ℕ) → ((r : ℕ) → chosen s r ≡ chosen t r) → cost o s ≡ cost o t
-cost-alike o s t alike = omega (arith, cost-more o s t (λ r e. sym (alike r) ∙ e), cost-more o t s (λ r e. alike r ∙ e))
+-- two lists of marks that choose alike cost the same, and have the same diversity
+module _ (o s t : List ℕ) (alike : (r : ℕ) → chosen s r ≡ chosen t r) where
+  pub cost-alike : cost o s ≡ cost o t
+  cost-alike = omega (arith, cost-more o s t (λ r e. sym (alike r) ∙ e), cost-more o t s (λ r e. alike r ∙ e))
+
+  pub diversity-alike : (way : ℕ) → diversity o way s ≡ diversity o way t
+  diversity-alike way =
+      omega (arith, diversity-more o s t (λ r e. sym (alike r) ∙ e) way, diversity-more o t s (λ r e. alike r ∙ e) way)

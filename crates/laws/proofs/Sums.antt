@@ -157,7 +157,7 @@ at-same w x q = go (eqb x q) refl
 pub total-at : (w : ℕ → ℕ) (x : ℕ) (xs : List ℕ) → total (λ q. w q * one (eqb x q)) xs ≡ w x * occurs x xs
 total-at w x xs = ap (λ f. total f xs) (fun-ext (at-same w x)) ∙ total-scale (w x) (λ q. one (eqb x q)) xs
 
-total-single : (w : ℕ → ℕ) (x a n : ℕ) → x < a + n → (x < a → w x ≡ 0) → total (λ q. w q * one (eqb x q)) (from a n) ≡ w x
+pub total-single : (w : ℕ → ℕ) (x a n : ℕ) → x < a + n → (x < a → w x ≡ 0) → total (λ q. w q * one (eqb x q)) (from a n) ≡ w x
 total-single w x a n h z = total-at w x (from a n) ∙ go (ltb x a) refl
   where
     go : (b : Bool) → ltb x a ≡ b → w x * occurs x (from a n) ≡ w x

@@ -10,29 +10,32 @@ use lib.ListN.{length, take, length-append}
 use lib.Seq.{take-all}
 use borrow.Author.Tests.{lt-ltb, le-ltb, leb-true, leb-false}
 use Rattle.lists.specs.Lists.{pick, one, from}
-use Rattle.lists.proofs.Bools.{one-le}
+use Rattle.lists.proofs.Bools.{one-le, pick-most}
 use Rattle.refusals.specs.Refusals.{Told}
 use Rattle.refusals.proofs.Placed.{Placed}
 use Rattle.outline.specs.Outline.{size, records, price, plate}
 use Rattle.outline.specs.Refusals.{mostRecords}
 use Rattle.outline.specs.Kept.{Kept}
-use Rattle.diversity.specs.Diversity.{chosen, diversity, cost, chosenTaxa}
+use Rattle.diversity.specs.Diversity.{chosen, within, diversity, cost, chosenTaxa}
 use Rattle.diversity.specs.Search.{optimum, blankCost, bestDiversity, leastCost}
 use Rattle.laws.specs.Locks.{lockedSet}
-use Rattle.laws.proofs.Optimum.{optimum-fits, shown-diversity, shown-cost, blank-diversity, blank-cost}
+use Rattle.laws.proofs.Optimum.{optimum-set, optimum-fits, shown-diversity, shown-cost, blank-diversity, blank-cost}
 use Rattle.laws.proofs.Sums.{total-most}
 use Rattle.choice.specs.Answer.{Call, judged, isSelected, bestSet, selected}
 use Rattle.choice.specs.Inner.{Solvable}
 use Rattle.choice.proofs.Answers.{way-known, selected-solvable, judged-placed}
 use Rattle.choice.proofs.Solving.{diversity-most}
-use Rattle.text.specs.Text.{decimal, others, line}
+use Rattle.sheet.specs.Sheet.{added, rowOf}
+use Rattle.sheet.proofs.Sums.{quarters-sum, diversity-sum}
+use Rattle.text.specs.Text.{decimal, others, line, labelled}
 use Rattle.text.proofs.Decimal.{decimal-most}
-use Rattle.listing.specs.Printed.{callWith, callOf, refusalText, firstLine, columnLine, taxonLine, selectionText, answerText, printed}
-use Rattle.listing.proofs.Texts.{texts-length}
+use Rattle.text.proofs.Texts.{texts-length}
+use Rattle.listing.specs.Printed.{callWith, callOf, refusalText, firstLine, columnLine, taxonLine, totalWord, totalLine, sheetText}
+use Rattle.listing.specs.Printed.{selectionText, answerText, printed}
 
 -- ---- a refusal
 refusal-most : (t : Told) → Placed mostRecords t → length (refusalText t) ≤ 15
-unfolding refusalText others
+unfolding refusalText labelled others
 refusal-most t p =
     simp length-append (omega (
       arith,
@@ -41,9 +44,23 @@ refusal-most t p =
     ))
 
 -- ---- a selection
+total-length : (a b : ℕ) → length (labelled totalWord (a ∷ b ∷ [])) ≡ 8 + (length (decimal a) + length (decimal b))
+unfolding labelled others
+total-length a b = simp length-append (omega arith)
+
 module _ (o : List ℕ) (kept : Kept o) (way : ℕ) (s : List ℕ) where
   diversity-small : diversity o way s < 10 ^ 9
   diversity-small = omega (arith, diversity-most o kept way s)
+
+  cost-small : cost o s < 10 ^ 7
+  unfolding cost records
+  cost-small =
+      omega (
+        arith,
+        total-most (λ r. pick (within o s r) (price o r) 0) 65535 1 (size o)
+            (λ r l u. omega (arith, pick-most (within o s r) (price o r), kept .ranged r l (omega arith) .price-most)),
+        kept .size-most,
+      )
 
   taxa-most : chosenTaxa o s < 10 ^ 3
   unfolding chosenTaxa records
@@ -87,23 +104,42 @@ module _ (c : Call) (known : (c .way ≡ 0) ⊎ (c .way ≡ 1)) (p : Solvable c)
   unfolding columnLine line others
   column-most b h = simp length-append (omega (arith, decimal-most 2 b (omega (arith, p .curve-long)), digits-most b h))
 
-  taxon-most : (r : ℕ) → 1 ≤ r → r ≤ size (c .outline) → length (taxonLine c r) ≤ 17
-  unfolding taxonLine
-  taxon-most r l u = go (chosen (bestSet c) r)
+  taxon-most : (r : ℕ) → length (taxonLine (c .outline) (c .way) (bestSet c) r) ≤ 29
+  unfolding taxonLine rowOf
+  taxon-most r = go (chosen (bestSet c) r)
     where
-      written : length (line (plate (c .outline) r ∷ price (c .outline) r ∷ [])) ≤ 17
+      row : List ℕ
+      row = plate (c .outline) r ∷ added (cost (c .outline)) (bestSet c) r ∷ added (diversity (c .outline) (c .way)) (bestSet c) r ∷ []
+
+      written : length (line row) ≤ 29
       written = unfold line in unfold others in simp length-append (omega (
         arith,
         decimal-most 9 (plate (c .outline) r) (omega arith),
-        decimal-most 4 (price (c .outline) r) (omega (arith, p .kept .ranged r l u .price-most)),
+        decimal-most 6 (added (cost (c .outline)) (bestSet c) r) (omega (arith, cost-small (c .outline) (p .kept) (c .way) (take r (bestSet c)))),
+        decimal-most 8 (added (diversity (c .outline) (c .way)) (bestSet c) r)
+            (omega (arith, diversity-small (c .outline) (p .kept) (c .way) (take r (bestSet c)))),
       ))
 
-      go : (b : Bool) → length (pick b (line (plate (c .outline) r ∷ price (c .outline) r ∷ [])) []) ≤ 17
+      go : (b : Bool) → length (pick b (line row) []) ≤ 29
       go true = written
       go false = omega arith
 
+  total-long : length (totalLine (c .outline) (c .way) (bestSet c)) ≤ 20
+  unfolding totalLine
+  total-long =
+      let o = c .outline in
+      let s = bestSet c in
+      let whole = optimum-set o (c .way) (c .count) (p .locked-fit) .whole in
+      rw (quarters-sum o s whole, diversity-sum o s whole (c .way))
+      (omega (
+        arith,
+        total-length (cost o s) (diversity o (c .way) s),
+        decimal-most 2 (cost o s) (cost-most (c .count) (omega arith) (p .locked-fit)),
+        decimal-most 8 (diversity o (c .way) s) (diversity-small o (p .kept) (c .way) s),
+      ))
+
   selection-most : length (selectionText c) ≤ 16384
-  unfolding selectionText records
+  unfolding selectionText sheetText records
   selection-most =
       let columns = from 0 (c .count + 1) in
       let taxa = from 1 (size (c .outline)) in
@@ -112,8 +148,9 @@ module _ (c : Call) (known : (c .way ≡ 0) ⊎ (c .way ≡ 1)) (p : Solvable c)
         first-most,
         texts-length (columnLine c) columns,
         total-most (λ b. length (columnLine c b)) 18 0 (c .count + 1) (λ b l u. column-most b (omega arith)),
-        texts-length (taxonLine c) taxa,
-        total-most (λ r. length (taxonLine c r)) 17 1 (size (c .outline)) (λ r l u. taxon-most r l (omega arith)),
+        texts-length (taxonLine (c .outline) (c .way) (bestSet c)) taxa,
+        total-most (λ r. length (taxonLine (c .outline) (c .way) (bestSet c) r)) 29 1 (size (c .outline)) (λ r l u. taxon-most r),
+        total-long,
         p .curve-long,
         p .kept .size-most,
       ))

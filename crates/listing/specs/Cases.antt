@@ -1,4 +1,4 @@
--- What the definitions give for tree A of document 01, count 5, way 0, which prints in whole what the document says; for the
+-- What the definitions give for tree A of document 01, count 5, way 0, which prints in whole what documents 01 and 02 say; for the
 -- same tree with a link that leads out of it, and with plate 11 locked; and for an input that is too short.
 use Prim.Native.Nat.{ℕ}
 use mathlib.Core.Path.{_≡_, refl}
@@ -10,8 +10,10 @@ use Rattle.diversity.specs.Diversity.{chain, clade, chosen, within, elsewhere, 
 use Rattle.diversity.specs.Search.{subsets, leads, better, fits, turn, exhaustiveSearch, isHolding, setOf, optimum, noneFits}
 use Rattle.diversity.specs.Search.{bestDiversity, leastCost}
 use Rattle.choice.specs.Answer.{tooShort, judged, selected}
-use Rattle.text.specs.Text.{digitsIn, decimal, others, line, texts}
-use Rattle.listing.specs.Printed.{callWith, callOf, refusalText, firstLine, columnLine, taxonLine, selectionText, answerText, printed}
+use Rattle.text.specs.Text.{digitsIn, decimal, others, line, labelled, texts}
+use Rattle.sheet.specs.Sheet.{rowOf, sumOf}
+use Rattle.listing.specs.Printed.{callWith, callOf, refusalText, firstLine, columnLine, taxonLine, totalLine, sheetText}
+use Rattle.listing.specs.Printed.{selectionText, answerText, printed}
 
 -- page count, way, and the records: next, first, length, price, plate. In tree A the last byte of record 3's plate field is 0, and 128
 -- where plate 11 is locked; the next of record 5 is 0
@@ -33,16 +35,17 @@ treeAText =
     ++ (51 ∷ 32 ∷ 49 ∷ 48 ∷ 32 ∷ 51 ∷ 10 ∷ [])  -- 3 10 3
     ++ (52 ∷ 32 ∷ 49 ∷ 48 ∷ 32 ∷ 51 ∷ 10 ∷ [])  -- 4 10 3
     ++ (53 ∷ 32 ∷ 49 ∷ 50 ∷ 32 ∷ 53 ∷ 10 ∷ [])  -- 5 12 5
-    ++ (49 ∷ 49 ∷ 32 ∷ 51 ∷ 10 ∷ [])  -- 11 3
-    ++ (49 ∷ 51 ∷ 32 ∷ 50 ∷ 10 ∷ [])  -- 13 2
+    ++ (49 ∷ 49 ∷ 32 ∷ 51 ∷ 32 ∷ 55 ∷ 10 ∷ [])  -- 11 3 7
+    ++ (49 ∷ 51 ∷ 32 ∷ 50 ∷ 32 ∷ 53 ∷ 10 ∷ [])  -- 13 2 5
+    ++ (116 ∷ 111 ∷ 116 ∷ 97 ∷ 108 ∷ 32 ∷ 53 ∷ 32 ∷ 49 ∷ 50 ∷ 10 ∷ [])  -- total 5 12
 
 pub tree-a-printed : printed (treeA 5 0 0) ≡ treeAText
 unfolding
     from anywhere total lowest short long records badField naming named badLink taxaIn taxa hasPlate isDuplicate sizeRows
     recordRows chain clade chosen within elsewhere rooted unrooted diversity cost locked holdsLocked chosenTaxa subsets leads
     better fits turn exhaustiveSearch isHolding setOf optimum noneFits bestDiversity leastCost tooShort judged selected digitsIn
-    decimal others line texts callWith callOf refusalText firstLine columnLine taxonLine selectionText answerText printed treeA
-    treeAText
+    decimal others line labelled texts rowOf sumOf callWith callOf refusalText firstLine columnLine taxonLine totalLine sheetText
+    selectionText answerText printed treeA treeAText
 tree-a-printed = refl
 
 -- plate 11 is locked, and its price of 3 doesn't fit count 2: refused 12 0
@@ -50,18 +53,18 @@ pub dear-lock-printed : printed (treeA 2 128 0) ≡ 114 ∷ 101 ∷ 102 ∷ 117 
 unfolding
     from anywhere total lowest short long records badField naming named badLink taxaIn taxa hasPlate isDuplicate sizeRows
     recordRows chain clade chosen within elsewhere rooted unrooted diversity cost locked holdsLocked subsets leads better fits
-    turn exhaustiveSearch isHolding noneFits tooShort judged digitsIn decimal others callWith callOf refusalText answerText printed
-    treeA
+    turn exhaustiveSearch isHolding noneFits tooShort judged digitsIn decimal others labelled callWith callOf refusalText answerText
+    printed treeA
 dear-lock-printed = refl
 
 -- record 5 of 5 names record 6: refused 6 5
 pub stray-link-printed : printed (treeA 5 0 6) ≡ 114 ∷ 101 ∷ 102 ∷ 117 ∷ 115 ∷ 101 ∷ 100 ∷ 32 ∷ 54 ∷ 32 ∷ 53 ∷ 10 ∷ []
 unfolding
     from anywhere total lowest short long records badField naming named badLink taxaIn taxa hasPlate isDuplicate sizeRows
-    recordRows tooShort judged digitsIn decimal others callWith callOf refusalText answerText printed treeA
+    recordRows tooShort judged digitsIn decimal others labelled callWith callOf refusalText answerText printed treeA
 stray-link-printed = refl
 
 -- three bytes: refused 2 0
 pub three-bytes-printed : printed (5 ∷ 0 ∷ 0 ∷ []) ≡ 114 ∷ 101 ∷ 102 ∷ 117 ∷ 115 ∷ 101 ∷ 100 ∷ 32 ∷ 50 ∷ 32 ∷ 48 ∷ 10 ∷ []
-unfolding digitsIn decimal others refusalText printed
+unfolding digitsIn decimal others labelled refusalText printed
 three-bytes-printed = refl

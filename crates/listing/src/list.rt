@@ -1,37 +1,37 @@
 // The listing of an input.
 ghost use Prim.Native.Nat.{_*_, _≤_, _<_};
 ghost use lib.ListN.{length};
-ghost use Rattle.outline.specs.Outline.{size};
 ghost use Rattle.text.specs.Written.{LongEnough, Written};
-ghost use Rattle.listing.specs.FromBuffers.{wholeText};
+ghost use Rattle.listing.specs.FromBuffers.{wholeText, Listed};
 ghost use Rattle.listing.specs.Printed.{callOf, answerText, printed};
 use super::columns::put_columns;
 use super::refusal::put_refusal;
-use super::taxa::put_taxa;
+use super::taxa::put_sheet;
 use choice::Answer;
 use choice::choose;
 use outline::fields::short_at;
 use refusals::verdict::Refusal;
 use text::put_line;
 
-// The first line, the columns and the taxa.
+// The first line, the columns and the sheet.
 fn put_selection(
     buffer: &mut [u8],
     first: &[u64],
     curve: &[u32],
     width: usize,
     o: &[u8],
+    way: u32,
     marks: &[u8],
 ) -> usize
-    requires { ⌜ (0 < length (now first)) × (2 * width ≤ length (now curve)) × (size (now o) ≤ length (now marks)) ⌝ }
-    requires { ⌜ LongEnough 0 (wholeText (now first) (now curve) width (now o) (now marks)) (now buffer) ⌝ }
+    requires { ⌜ (0 < length (now first)) × (2 * width ≤ length (now curve)) × Listed (now o) way (now marks) ⌝ }
+    requires { ⌜ LongEnough 0 (wholeText (now first) (now curve) width (now o) way (now marks)) (now buffer) ⌝ }
     ensures { λ n. ⌜ Written 0
-        (wholeText (now (first .entry)) (now (curve .entry)) width (now (o .entry)) (now (marks .entry)))
+        (wholeText (now (first .entry)) (now (curve .entry)) width (now (o .entry)) way (now (marks .entry)))
         (now (buffer .entry)) (now (buffer .exit)) n ⌝ }
 {
     let columns = put_line(buffer, 0, first);
     let taxa = put_columns(buffer, columns, curve, width);
-    put_taxa(buffer, taxa, o, marks)
+    put_sheet(buffer, taxa, o, way, marks)
 }
 
 // The listing of the bytes that are judged.
@@ -61,7 +61,15 @@ fn list_bytes(buffer: &mut [u8], bytes: &[u8]) -> usize
                 cost as u64,
                 taxa as u64,
             ];
-            put_selection(buffer, &first, &curve, count as usize + 1, outline, &marks)
+            put_selection(
+                buffer,
+                &first,
+                &curve,
+                count as usize + 1,
+                outline,
+                way,
+                &marks,
+            )
         }
     }
 }

@@ -5,8 +5,7 @@ ghost use Rattle.listing.specs.Printed.{refusalText};
 use refusals::verdict::Refusal;
 use refusals::verdict::number_of;
 use refusals::verdict::place_of;
-use text::put_others;
-use text::put_text;
+use text::put_labelled;
 
 pub fn put_refusal(buffer: &mut [u8], refusal: Refusal) -> usize
     requires { ⌜ LongEnough 0 (refusalText (told refusal)) (now buffer) ⌝ }
@@ -14,6 +13,5 @@ pub fn put_refusal(buffer: &mut [u8], refusal: Refusal) -> usize
 {
     let number = number_of(refusal) as u64;
     let place = place_of(refusal) as u64;
-    let to = put_text(buffer, 0, b"refused");
-    put_others(buffer, to, &[number, place])
+    put_labelled(buffer, 0, b"refused", &[number, place])
 }

@@ -156,6 +156,11 @@ from-both k (suc a) b =
     let d : k + suc a ≡ k + 1 + a = omega arith in
     rw (e, d) (ap (λ xs. k ∷ xs) (from-both (k + 1) a b))
 
+-- the last of them
+pub from-last : (k n : ℕ) → from k (suc n) ≡ from k n ++ ((k + n) ∷ [])
+unfolding from
+from-last k n = let e : suc n ≡ n + 1 = omega arith in ap (from k) e ∙ from-both k n 1
+
 -- a test that holds in neither of two parts holds nowhere
 pub nowhere-both : (p : ℕ → Bool) (xs ys : List ℕ) → anywhere p xs ≡ false → anywhere p ys ≡ false → anywhere p (xs ++ ys) ≡ false
 unfolding anywhere

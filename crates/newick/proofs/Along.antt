@@ -1,6 +1,6 @@
 -- The text and the pairs of a chain, along the links.
 use Prim.Native.Nat.{ℕ, _<_}
-use mathlib.Core.Path.{_≡_, refl, sym, ap, subst, _∙_}
+use mathlib.Core.Path.{_≡_, sym, ap, subst, _∙_}
 use mathlib.Core.Logic.{_≢_}
 use mathlib.Core.Bool.{Bool, true, false}
 use mathlib.Core.List.{List, [], _∷_, _++_, append-assoc, append-nil}
@@ -17,6 +17,7 @@ use Rattle.diversity.specs.Diversity.{chain as chainFrom}
 use Rattle.laws.proofs.Chains.{chain-none, chain-step, clade-root}
 use Rattle.text.specs.Text.{decimal, texts}
 use Rattle.text.specs.Written.{LongEnough, Written}
+use Rattle.text.proofs.Texts.{texts-both}
 use Rattle.text.proofs.Writing.{Left, written-nothing, left-starts, left-fits, left-goes, left-last}
 use Rattle.text.proofs.Writing.{first-fits, second-fits, third-fits, fourth-fits, four-written}
 use Rattle.newick.specs.Grammar.{chain, Tree, taxon, group, last, more}
@@ -40,11 +41,6 @@ text-grown false false p l ms ns =
     ap (λ s. 40 ∷ s)
     (append-assoc (spelling ms) (41 ∷ 58 ∷ decimal l) (44 ∷ spelling ns)
     ∙ ap (λ s. spelling ms ++ (41 ∷ 58 ∷ s)) (sym (append-assoc (decimal l) (44 ∷ []) (spelling ns))))
-
-texts-both : (f : ℕ → List ℕ) (xs ys : List ℕ) → texts f (xs ++ ys) ≡ texts f xs ++ texts f ys
-unfolding texts
-texts-both f [] ys = refl
-texts-both f (x ∷ xs) ys = ap (λ s. f x ++ s) (texts-both f xs ys) ∙ sym (append-assoc (f x) (texts f xs) (texts f ys))
 
 -- no record begins no text and no pairs
 pub text-none : (o : List ℕ) (at : ℕ) (buffer : List ℕ) {r : ℕ} → r ≡ 0 → Written at (chainText o r) buffer buffer at

@@ -1,5 +1,5 @@
--- What is promised of calls of `plates_write` and `plates_read` one after the other: what is promised of `write` and `read`, of the
--- numbers that stand in `answer`.
+-- What is promised of calls one after the other, `plates_write` and `plates_read`, `plates_choose` and `plates_sheet`: what is promised
+-- of the functions behind them, of the numbers that stand in `answer`.
 use Prim.Native.Nat.{ℕ, _≤_}
 use mathlib.Core.Path.{_≡_, sym, _∙_}
 use mathlib.Core.List.{List}
@@ -9,7 +9,11 @@ use Rattle.newick.specs.Answer as read
 use Rattle.newick.specs.WriteAnswer as write
 use Rattle.newick.specs.WriteDemands.{Handed, Returned, GivenBack, Room, WroteAlike}
 use Rattle.newick.proofs.RoundTrip.{same-bytes, second-writing}
-use Rattle.plates.specs.Interface.{readIn, TextRead, writtenIn, TextWritten}
+use Rattle.choice.specs.Answer as choose
+use Rattle.sheet.specs.Answer as sheet
+use Rattle.sheet.specs.Demands as sheets
+use Rattle.sheet.proofs.Demands.{choice-listed}
+use Rattle.plates.specs.Interface.{chosenIn, Chosen, listedIn, SheetListed, readIn, TextRead, writtenIn, TextWritten}
 
 -- where the records stand in text order, reading what was written gives back the same bytes
 pub written-read : {c : write.Call} {d : read.Call} {n m : ℕ} {answer text pairs answer′ outline : List ℕ}
@@ -28,3 +32,9 @@ pub written-again : {c d : read.Call} {w v : write.Call} {n m k l : ℕ} {first 
 written-again x z ret y e h long p ret′ room y′ =
     second-writing (x .answered) (sym (x .number-given) ∙ z) ret (y .answered) (sym (y .number-given) ∙ e) h long (p .answered) ret′ room
     (y′ .answered)
+
+-- a choice's marks are accepted as they are, and the sums are the choice's cost and diversity
+pub chosen-listed : {c : choose.Call} {d : sheet.Call} {n m : ℕ} {answer marks curve work answer′ lent : List ℕ}
+    → Chosen c n answer marks curve work → n ≡ 0 → sheets.Handed c (chosenIn answer) marks d → SheetListed d m answer′ lent
+    → listedIn answer′ ≡ sheet.listed (chosenIn answer .taxa) (chosenIn answer .cost) (chosenIn answer .diversity)
+chosen-listed {c} {d} x z h y = choice-listed c (x .answered) (sym (x .number-given) ∙ z) d h (y .answered)

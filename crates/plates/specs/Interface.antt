@@ -6,6 +6,7 @@ use lib.ListN.{length, getD}
 use Rattle.choice.specs.Answer as choose
 use Rattle.newick.specs.Answer as read
 use Rattle.newick.specs.WriteAnswer as write
+use Rattle.sheet.specs.Answer as sheet
 
 -- what a function gives with its `answer`: that has so many numbers and no more, the first of them is given, and they answer the
 -- call
@@ -28,6 +29,20 @@ chosenIn answer = record {
 -- a call is answered by them as `choose` answers it
 abbrev pub Chosen : choose.Call → ℕ → List ℕ → List ℕ → List ℕ → List ℕ → Type 0
 Chosen c number answer marks curve work = Given 6 chosenIn (λ r. choose.Answered c r marks curve work) number answer
+
+-- the five numbers of a sheet
+abbrev pub listedIn : List ℕ → sheet.Reply
+listedIn answer = record {
+  number = getD answer 0 0;
+  place = getD answer 1 0;
+  rows = getD answer 2 0;
+  quarters = getD answer 3 0;
+  diversity = getD answer 4 0;
+}
+
+-- a call is answered by them as `sheet` answers it
+abbrev pub SheetListed : sheet.Call → ℕ → List ℕ → List ℕ → Type 0
+SheetListed c number answer lent = Given 5 listedIn (λ r. sheet.Answered c r lent) number answer
 
 -- the three numbers of reading
 abbrev pub readIn : List ℕ → read.Reply

@@ -1,5 +1,5 @@
-// The C interface: checking an outline, finding a plate's record, choosing, reading a tree from text and writing it as
-// text, over memory that the caller lends.
+// The C interface: checking an outline, finding a plate's record, choosing, listing a marked set, reading a tree from text and
+// writing it as text, over memory that the caller lends.
 // include/plates.h declares these functions.
 ghost use mathlib.Core.Path.{_≡_};
 ghost use Rattle.refusals.specs.Refusals.{tells};
@@ -7,7 +7,8 @@ ghost use Rattle.outline.specs.Refusals.{checked, foundAt};
 ghost use Rattle.newick.specs.Answer.{call as reading};
 ghost use Rattle.newick.specs.WriteAnswer.{call as writing};
 ghost use Rattle.choice.specs.Answer.{call};
-ghost use Rattle.plates.specs.Interface.{Chosen, TextRead, TextWritten};
+ghost use Rattle.sheet.specs.Answer.{call as listing};
+ghost use Rattle.plates.specs.Interface.{Chosen, SheetListed, TextRead, TextWritten};
 use choice::Answer;
 use choice::choose;
 use newick::read;
@@ -19,6 +20,8 @@ use outline::find_record;
 use refusals::verdict::Verdict;
 use refusals::verdict::number_of;
 use refusals::verdict::place_of;
+use sheet::Answer as Listing;
+use sheet::sheet as list;
 
 // 0, or the number of the first row of the table that refuses an outline; writes its place.
 #[no_mangle]
@@ -73,6 +76,36 @@ pub extern "C" fn plates_choose(
         Answer::Refused(refusal) => {
             let number = number_of(refusal);
             *answer = [number, place_of(refusal) as u32, 0, 0, 0, 0];
+            number
+        }
+    }
+}
+
+// Lists a marked set, and writes number, place, the number of rows and both sums; the number is given as well.
+#[no_mangle]
+pub extern "C" fn plates_sheet(
+    outline: &[u8],
+    way: u32,
+    marks: &[u8],
+    sheet: &mut [u32],
+    answer: &mut [u32; 5],
+) -> u32
+    ensures { λ n. ⌜ SheetListed
+        (listing (now (outline .entry)) way (now (marks .entry)) (now (sheet .entry)))
+        n (now (answer .exit)) (now (sheet .exit)) ⌝ }
+{
+    match list(outline, way, marks, sheet) {
+        Listing::Listed {
+            rows,
+            quarters,
+            diversity,
+        } => {
+            *answer = [0, 0, rows, quarters, diversity];
+            0
+        }
+        Listing::Refused(refusal) => {
+            let number = number_of(refusal);
+            *answer = [number, place_of(refusal) as u32, 0, 0, 0];
             number
         }
     }

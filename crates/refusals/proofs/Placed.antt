@@ -11,7 +11,7 @@ use Rattle.refusals.specs.Refusals.{Told, tells, passed, row, rowAt, _�
 
 -- the last number of the table
 abbrev pub mostNumber : ℕ
-mostNumber = 13
+mostNumber = 14
 
 -- the number is one of the table's, and the place at most so many
 pub record Placed (most : ℕ) (t : Told) : Type 0 where

@@ -24,6 +24,7 @@ refusal-numbered Refusal.BadText = omega arith
 refusal-numbered Refusal.BadPairs = omega arith
 refusal-numbered Refusal.LockedTooDear = omega arith
 refusal-numbered (Refusal.Unwritable r) = omega arith
+refusal-numbered (Refusal.BadMarks r) = omega arith
 
 pub refusal-not-zero : (e : Refusal) → eqb (refusal e .number) 0 ≡ false
 refusal-not-zero e = ne-eqb (refusal e .number) 0 (λ z. omega (arith, refusal-numbered e))
@@ -42,7 +43,8 @@ refusalAt t =
     (pick (eqb (t .number) 9) Refusal.BufferTooShort
     (pick (eqb (t .number) 10) Refusal.BadText
     (pick (eqb (t .number) 11) Refusal.BadPairs
-    (pick (eqb (t .number) 12) Refusal.LockedTooDear (Refusal.Unwritable (t .place)))))))))))))
+    (pick (eqb (t .number) 12) Refusal.LockedTooDear
+    (pick (eqb (t .number) 13) (Refusal.Unwritable (t .place)) (Refusal.BadMarks (t .place))))))))))))))
 
 refusal-at : (e : Refusal) → refusalAt (refusal e) ≡ e
 unfolding refusalAt
@@ -59,6 +61,7 @@ refusal-at Refusal.BadText = refl
 refusal-at Refusal.BadPairs = refl
 refusal-at Refusal.LockedTooDear = refl
 refusal-at (Refusal.Unwritable r) = refl
+refusal-at (Refusal.BadMarks r) = refl
 
 -- the number and the place determine the refusal
 pub refusal-determined : (d e : Refusal) → refusal d ≡ refusal e → d ≡ e

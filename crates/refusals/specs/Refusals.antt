@@ -34,6 +34,7 @@ refusal Refusal.BadText = tells 10 0
 refusal Refusal.BadPairs = tells 11 0
 refusal Refusal.LockedTooDear = tells 12 0
 refusal (Refusal.Unwritable r) = tells 13 r
+refusal (Refusal.BadMarks r) = tells 14 r
 
 -- and of what a judge answers
 abbrev pub told : Verdict → Told

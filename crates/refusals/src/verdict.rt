@@ -17,6 +17,7 @@ pub enum Refusal {
     BadPairs,
     LockedTooDear,
     Unwritable(usize),
+    BadMarks(usize),
 }
 
 pub enum Verdict {
@@ -42,6 +43,7 @@ pub fn number_of(refusal: Refusal) -> u32
         Refusal::BadPairs => 11,
         Refusal::LockedTooDear => 12,
         Refusal::Unwritable(_) => 13,
+        Refusal::BadMarks(_) => 14,
     }
 }
 
@@ -63,5 +65,6 @@ pub fn place_of(refusal: Refusal) -> usize
         Refusal::BadPairs => 0,
         Refusal::LockedTooDear => 0,
         Refusal::Unwritable(r) => r,
+        Refusal::BadMarks(r) => r,
     }
 }

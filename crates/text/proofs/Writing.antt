@@ -4,7 +4,7 @@ use mathlib.Core.Path.{_≡_, refl, sym, ap, subst, _∙_}
 use mathlib.Core.List.{List, [], _∷_, _++_}
 use native.Mathlib.Numerals.{add-one}
 use native.Mathlib.Omega.{arith}
-use lib.ListN.{length, getD, drop, set, length-append, drop-of-length-le}
+use lib.ListN.{length, getD, drop, set, length-append, length-set, drop-of-length-le}
 use lib.Seq.{drop-cons}
 use Rattle.lists.specs.Lists.{over, overAt}
 use Rattle.lists.proofs.Pieces.{over-one, over-nothing, over-length, over-both}
@@ -14,17 +14,28 @@ use Rattle.text.specs.Written.{LongEnough, Written}
 pub written-byte : (at b : ℕ) (buffer : List ℕ) → at < length buffer → Written at (b ∷ []) buffer (set buffer at b) (at + 1)
 written-byte at b buffer h = record { buffer-is = over-one at b buffer h; next-is = refl }
 
--- two numbers
+-- one piece after another
+written-then : {at m n : ℕ} {s t before mid after : List ℕ} → at ≤ length before → Written at s before mid m → Written m t mid after n
+    → Written at (s ++ t) before after n
+written-then {at} {m} {n} {s} {t} {before} {mid} h d e = record {
+  buffer-is = e .buffer-is ∙ ap (overAt m t) (d .buffer-is) ∙ over-both at m s t before h (d .next-is);
+  next-is = omega (arith, d .next-is, e .next-is, length-append s t);
+}
+
+-- two numbers, and three
 pub written-two : (at a b : ℕ) (buffer : List ℕ) → at + 2 ≤ length buffer
     → Written at (a ∷ b ∷ []) buffer (set (set buffer at a) (at + 1) b) (at + 2)
 written-two at a b buffer h =
-    record {
-      buffer-is =
-          ap (λ q. set q (at + 1) b) (over-one at a buffer (omega arith))
-          ∙ over-one (at + 1) b (overAt at (a ∷ []) buffer) (omega (arith, over-length at (a ∷ []) buffer (omega arith)))
-          ∙ over-both at (at + 1) (a ∷ []) (b ∷ []) buffer (omega arith) refl;
-      next-is = refl;
-    }
+    let e : at + 2 ≡ at + 1 + 1 = omega arith in
+    rw e (written-then (omega arith) (written-byte at a buffer (omega arith)) (written-byte (at + 1) b (set buffer at a) (rw length-set (omega arith))))
+
+pub written-three : (at a b c : ℕ) (buffer : List ℕ) → at + 3 ≤ length buffer
+    → Written at (a ∷ b ∷ c ∷ []) buffer (set (set (set buffer at a) (at + 1) b) (at + 2) c) (at + 3)
+written-three at a b c buffer h =
+    let e : at + 3 ≡ at + 2 + 1 = omega arith in
+    rw e
+    (written-then (omega arith) (written-two at a b buffer (omega arith))
+    (written-byte (at + 2) c (set (set buffer at a) (at + 1) b) (rw (length-set, length-set) (omega arith))))
 
 -- nothing
 pub written-nothing : (at : ℕ) (buffer : List ℕ) → Written at [] buffer buffer at

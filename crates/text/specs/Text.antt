@@ -33,6 +33,10 @@ unfoldable pub line : List ℕ → List ℕ
 line [] = lineEnd ∷ []
 line (n ∷ ns) = decimal n ++ others ns
 
+-- a line that begins with a word
+unfoldable pub labelled : List ℕ → List ℕ → List ℕ
+labelled label numbers = label ++ others numbers
+
 -- a text for each number of a list, one after the other
 unfoldable pub texts : (ℕ → List ℕ) → List ℕ → List ℕ
 texts f [] = []

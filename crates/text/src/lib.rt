@@ -4,7 +4,7 @@ ghost use Prim.Native.Nat.{_<_};
 ghost use mathlib.Core.List.{[], _∷_};
 ghost use lib.ListN.{length};
 ghost use Rattle.text.specs.Written.{LongEnough, Written};
-ghost use Rattle.text.specs.Text.{decimal, others, line};
+ghost use Rattle.text.specs.Text.{decimal, others, line, labelled};
 
 pub fn put_byte(buffer: &mut [u8], at: usize, byte: u8) -> usize
     requires { ⌜ at < length (now buffer) ⌝ }
@@ -57,4 +57,13 @@ pub fn put_line(buffer: &mut [u8], at: usize, numbers: &[u64]) -> usize
 {
     let to = put_number(buffer, at, numbers[0]);
     put_others(buffer, to, &numbers[1..])
+}
+
+// A line that begins with a word.
+pub fn put_labelled(buffer: &mut [u8], at: usize, label: &[u8], numbers: &[u64]) -> usize
+    requires { ⌜ LongEnough at (labelled (now label) (now numbers)) (now buffer) ⌝ }
+    ensures { λ r. ⌜ Written at (labelled (now (label .entry)) (now (numbers .entry))) (now (buffer .entry)) (now (buffer .exit)) r ⌝ }
+{
+    let to = put_text(buffer, at, label);
+    put_others(buffer, to, numbers)
 }

@@ -2,9 +2,12 @@
 
 use crate::expect::Expected;
 use crate::frame::difference;
-use crate::library::{CheckObserved, ChooseObserved, FindObserved, ReadObserved, WriteObserved};
+use crate::library::{
+    CheckObserved, ChooseObserved, FindObserved, ReadObserved, SheetObserved, WriteObserved,
+};
 use crate::reading::ReadExpected;
 use crate::rules::Refusal;
+use crate::sheet::SheetExpected;
 use crate::writing::WriteExpected;
 
 /// The differences found, and how many numbers and bytes were compared.
@@ -123,6 +126,26 @@ pub fn write(expected: &WriteExpected, observed: &WriteObserved) -> Comparison {
     }
 }
 
+pub fn sheet(expected: &SheetExpected, observed: &SheetObserved) -> Comparison {
+    let (before, after) = (&observed.before, &observed.after);
+    let differences = [
+        returned(expected.answer[0], observed.returned),
+        difference("answer", &before.answer, &after.answer, &expected.answer),
+        difference("outline", &before.outline, &after.outline, &[]),
+        difference("marks", &before.marks, &after.marks, &[]),
+        difference("sheet", &before.sheet, &after.sheet, &expected.sheet),
+    ];
+    let values = 1
+        + after.answer.cells.len()
+        + after.outline.cells.len()
+        + after.marks.cells.len()
+        + after.sheet.cells.len();
+    Comparison {
+        differences: differences.into_iter().flatten().collect(),
+        values,
+    }
+}
+
 #[cfg(test)]
 mod tests {
     use super::*;
@@ -130,11 +153,12 @@ mod tests {
     use crate::cases;
     use crate::expect;
     use crate::frame::Frame;
-    use crate::library::{Buffers, ReadBuffers, WriteBuffers};
+    use crate::library::{Buffers, ReadBuffers, SheetBuffers, WriteBuffers};
     use crate::lock_cases::locking;
     use crate::outline::{bytes, Record};
     use crate::random::Random;
     use crate::reading::{self, ReadCall};
+    use crate::sheet::{self, SheetCall};
     use crate::writing::{self, WriteCall};
 
     /// What a right library does.
@@ -463,5 +487,56 @@ mod tests {
             let untouched = write(&expected, &altered).differences.len();
             assert_eq!(untouched, if number == 0 { 3 } else { 1 });
         }
+    }
+
+    /// {3, 5} of tree A listed by a right library, rooted, to a sheet of this length.
+    fn listing(sheet: usize) -> (SheetExpected, SheetObserved) {
+        let call = SheetCall {
+            outline: bytes(&cases::tree_a()),
+            way: 0,
+            marks: vec![0, 0, 1, 0, 1, 255],
+            within: None,
+            sheet,
+        };
+        let expected = sheet::expected(&call);
+        let before = SheetBuffers::random(&call, &mut Random::new(6));
+        let mut after = before.clone();
+        after.answer.write(&expected.answer);
+        after.sheet.write(&expected.sheet);
+        let returned = expected.answer[0];
+        let observed = SheetObserved {
+            returned,
+            before,
+            after,
+        };
+        (expected, observed)
+    }
+
+    #[test]
+    fn wrong_sheets_are_noticed() {
+        for (len, number) in [(10, 0), (6, 0), (5, 9)] {
+            let pair = listing(len);
+            assert_eq!(pair.0.answer[0], number);
+            assert_eq!(sheet(&pair.0, &pair.1).differences, [""; 0]);
+            is_the_one_difference(sheet, &pair, |o| &mut o.after.answer, |v| v ^ (1 << 31));
+            is_the_one_difference(sheet, &pair, |o| &mut o.after.outline, |v| v ^ 1);
+            is_the_one_difference(sheet, &pair, |o| &mut o.after.marks, |v| v ^ 1);
+            is_the_one_difference(sheet, &pair, |o| &mut o.after.sheet, |v| v.wrapping_add(1));
+            let (expected, mut altered) = pair;
+            altered.returned ^= 1;
+            assert_eq!(sheet(&expected, &altered).differences.len(), 1);
+            altered.after.sheet = altered.before.sheet.clone();
+            let untouched = sheet(&expected, &altered).differences.len();
+            assert_eq!(untouched, if number == 0 { 2 } else { 1 });
+        }
+    }
+
+    #[test]
+    fn rows_that_change_places_are_noticed() {
+        let (expected, mut observed) = listing(10);
+        let start = observed.after.sheet.start;
+        observed.after.sheet.cells[start..start + 6].rotate_left(3);
+        let found = sheet(&expected, &observed).differences;
+        assert_eq!(found, ["sheet[0] (length 10): expected 11, got 13"]);
     }
 }

@@ -17,11 +17,7 @@ pub fn damaged_call(rng: &mut Random) -> Call {
     const MOST_WORK: usize = 200_000;
     let count = random_count(rng);
     let (outline, count) = damaged_outline(count, rng);
-    let way = if rng.one_in(12) {
-        rng.pick(&[2, 3, 256, 65_536, 1 << 31, u32::MAX])
-    } else {
-        rng.up_to(1)
-    };
+    let way = some_way(rng);
     let mut call = Call::roomy(outline, count.min(4_096), way, rng);
     if rng.one_in(6) {
         call.shorten(rng);
@@ -31,6 +27,15 @@ pub fn damaged_call(rng: &mut Random) -> Call {
     }
     call.count = count;
     call
+}
+
+/// Either way, at times a number that is neither.
+pub(crate) fn some_way(rng: &mut Random) -> u32 {
+    if rng.one_in(12) {
+        rng.pick(&[2, 3, 256, 65_536, 1 << 31, u32::MAX])
+    } else {
+        rng.up_to(1)
+    }
 }
 
 /// A refusal's number and what gives it at a record, by its position.

@@ -4,7 +4,7 @@ use crate::cases::{case, group, taxon, tree_a, Case, Limit};
 use crate::outline::{bytes, Record, ROOTED, UNROOTED};
 
 /// A group whose heading has this price.
-fn headed(price: u32, group: Record) -> Record {
+pub(crate) fn headed(price: u32, group: Record) -> Record {
     Record { price, ..group }
 }
 

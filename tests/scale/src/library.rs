@@ -4,6 +4,7 @@ use crate::call::Call;
 use crate::frame::Frame;
 use crate::random::Random;
 use crate::reading::ReadCall;
+use crate::sheet::SheetCall;
 use crate::writing::WriteCall;
 
 extern "C" {
@@ -38,6 +39,16 @@ extern "C" {
         text_len: usize,
         pairs: *mut u32,
         pairs_len: usize,
+        answer: *mut u32,
+    ) -> u32;
+    fn plates_sheet(
+        outline: *const u8,
+        outline_len: usize,
+        way: u32,
+        marks: *const u8,
+        marks_len: usize,
+        sheet: *mut u32,
+        sheet_len: usize,
         answer: *mut u32,
     ) -> u32;
 }
@@ -328,6 +339,64 @@ pub fn guarded_write(call: &WriteCall, rng: &mut Random) -> WriteObserved {
     }
 }
 
+/// What a listing call is handed, with its guards.
+#[derive(Clone, Debug)]
+pub struct SheetBuffers {
+    pub outline: Frame<u8>,
+    pub marks: Frame<u8>,
+    pub sheet: Frame<u32>,
+    pub answer: Frame<u32>,
+}
+
+impl SheetBuffers {
+    pub fn random(call: &SheetCall, rng: &mut Random) -> Self {
+        SheetBuffers {
+            outline: Frame::holding(&call.outline, rng),
+            marks: Frame::holding(&call.marks, rng),
+            sheet: Frame::random(call.sheet, rng),
+            answer: Frame::random(5, rng),
+        }
+    }
+}
+
+/// What a listing call returned and did to its buffers.
+#[derive(Clone, Debug)]
+pub struct SheetObserved {
+    pub returned: u32,
+    pub before: SheetBuffers,
+    pub after: SheetBuffers,
+}
+
+/// Marks that are a part of the outline's own memory are handed over from there.
+pub fn guarded_sheet(call: &SheetCall, rng: &mut Random) -> SheetObserved {
+    let before = SheetBuffers::random(call, rng);
+    let mut after = before.clone();
+    let outline = after.outline.pointer();
+    let marks = call.within.map_or(after.marks.pointer(), |at| {
+        assert_eq!(call.outline[at..][..call.marks.len()], call.marks);
+        outline.wrapping_add(at)
+    });
+    // SAFETY: each frame's buffer has the length given here, and the frames are separate allocations; marks inside the outline
+    // end inside it, and neither is written to.
+    let returned = unsafe {
+        plates_sheet(
+            outline,
+            after.outline.len,
+            call.way,
+            marks,
+            after.marks.len,
+            after.sheet.pointer(),
+            after.sheet.len,
+            after.answer.pointer(),
+        )
+    };
+    SheetObserved {
+        returned,
+        before,
+        after,
+    }
+}
+
 #[cfg(test)]
 mod tests {
     use super::*;
@@ -371,5 +440,28 @@ mod tests {
         assert_eq!(answer, [0, 0, 23, 3]);
         assert_eq!(text, *b"((11:4,12:2):3,13:5):0;\x09");
         assert_eq!(pairs, [11, 3, 12, 1, 13, 2, 9]);
+    }
+
+    /// Record 3 has a length and a price whose bytes are 0, 0, 1, 0 and 1, 0, 0, 0.
+    #[test]
+    fn marks_are_taken_from_their_own_memory_or_from_the_outline() {
+        let mut records = tree_a();
+        (records[2].length, records[2].price) = (65_536, 1);
+        let mut call = SheetCall {
+            outline: bytes(&records),
+            way: 0,
+            marks: vec![0, 0, 1, 0, 1],
+            within: None,
+            sheet: 7,
+        };
+        for within in [None, Some(36)] {
+            call.within = within;
+            let observed = guarded_sheet(&call, &mut Random::new(1));
+            let SheetBuffers { sheet, answer, .. } = observed.after;
+            assert_eq!(observed.returned, 0);
+            assert_eq!(answer.content(), [0, 0, 2, 3, 65_544]);
+            assert_eq!(sheet.content()[..6], [11, 1, 65_539, 13, 2, 5]);
+            assert_eq!(sheet.content()[6], observed.before.sheet.content()[6]);
+        }
     }
 }

@@ -6,7 +6,7 @@ use crate::damage::{self, Outcomes};
 use crate::earlier;
 use crate::expect::{self, Expected};
 use crate::headings;
-use crate::library;
+use crate::library::{self, ChooseObserved};
 use crate::locks;
 use crate::outline::{self, Record, LOCK, ROOTED, UNROOTED};
 use crate::random::Random;
@@ -51,7 +51,10 @@ impl Runner {
         self.lock_cases()?;
         self.written_outlines(2 * outlines)?;
         self.rewritten_texts(2 * outlines)?;
-        self.stated_writings()
+        self.stated_writings()?;
+        self.marked_sets(2 * outlines)?;
+        self.listed_choices(outlines / 2, outlines / 50)?;
+        self.stated_sheets()
     }
 
     /// Starts a run with numbers that do not depend on the runs before it.
@@ -59,7 +62,11 @@ impl Runner {
         self.rng = Random::new(self.seed ^ u64::from(run) << 32);
     }
 
-    pub(crate) fn choose(&mut self, call: &Call, expected: &Expected) -> Result<(), Stop> {
+    pub(crate) fn choose(
+        &mut self,
+        call: &Call,
+        expected: &Expected,
+    ) -> Result<ChooseObserved, Stop> {
         let observed = library::guarded_choose(call, &mut self.rng);
         let comparison = compare::choose(expected, &observed);
         let columns = expected.curve.len() / 2;
@@ -73,7 +80,8 @@ impl Runner {
                 call.work,
                 shell_line(call.count, call.way, &call.outline)
             )
-        })
+        })?;
+        Ok(observed)
     }
 
     /// An outline without locks, or without headings too, is to give what it gave.
@@ -294,7 +302,7 @@ fn some_plate(outline: &[u8], rng: &mut Random) -> u32 {
 }
 
 /// 64 taxa and a page count; the shape and the kind of filling by turns.
-fn full_outline(turn: u64, rng: &mut Random) -> (Vec<Record>, u32) {
+pub(crate) fn full_outline(turn: u64, rng: &mut Random) -> (Vec<Record>, u32) {
     let mut records = match turn % 6 {
         0 => shapes::balanced(6),
         1 => shapes::caterpillar_taxon_first(64),
@@ -325,7 +333,7 @@ fn full_outline(turn: u64, rng: &mut Random) -> (Vec<Record>, u32) {
     (records, count)
 }
 
-fn larger_outline(rng: &mut Random) -> (Vec<Record>, u32) {
+pub(crate) fn larger_outline(rng: &mut Random) -> (Vec<Record>, u32) {
     let mut records = larger_shape(rng);
     let most = rng.pick(&[60, 300, 1_000]);
     let count = rng.up_to(most);

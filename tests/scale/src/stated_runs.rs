@@ -30,7 +30,8 @@ impl Runner {
         let mut expected = Expected::selection(Solution { columns, marks });
         let taxa = case.chosen.len() as u32;
         expected.answer = [0, 0, case.diversity, case.cost, taxa, case.spare];
-        self.choose(&call, &expected)
+        self.choose(&call, &expected)?;
+        Ok(())
     }
 
     pub(crate) fn cases(&mut self) -> Result<(), Stop> {

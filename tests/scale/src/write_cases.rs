@@ -146,7 +146,7 @@ fn groups_of_one() -> Vec<WriteCase> {
 }
 
 /// Records 5 and 7 are below record 2, record 6 below record 3, and record 4 is the root's last member.
-fn seven_records() -> [Record; 7] {
+pub(crate) fn seven_records() -> [Record; 7] {
     [
         group(0, 2, 1),
         group(3, 5, 20),
@@ -280,9 +280,8 @@ fn lowest() -> Vec<WriteCase> {
     in_groups.chain(others).collect()
 }
 
-/// Each outline has the faults of those after it: 2, 3, 5, 6, 7, 8, 13. All of them come before 9.
-fn order() -> Vec<WriteCase> {
-    let locked = locking(&[3], tree_a());
+/// Outlines, and the number and place of the check's refusal. Each has the faults of those after it: 2, 3, 5, 6, 7, 8.
+pub(crate) fn faulty_outlines() -> [(&'static str, Vec<u8>, u32, u32); 9] {
     let twins = locking(&[3], with_field(5, 11));
     let mut many = locking(&[2], shapes::star(65));
     many[65].plate = 1;
@@ -295,20 +294,26 @@ fn order() -> Vec<WriteCase> {
     let ragged = [&thick[..], &[0]].concat();
     let alone = bytes(&[taxon(0, 5, 1, LOCK + 1)]);
     [
-        refused("2", &ragged, 2, 0),
-        refused("2, no record", &[], 2, 0),
-        refused("2, 15 bytes", &alone[..15], 2, 0),
-        refused("2, 17 bytes", &[&alone[..], &[0]].concat(), 2, 0),
-        refused("3", &thick, 3, 0),
-        refused("5", &bytes(&long), 5, 66),
-        refused("6", &bytes(&linked), 6, 1),
-        refused("7", &bytes(&many), 7, 0),
-        refused("8", &bytes(&twins), 8, 5),
-        refused("13", &bytes(&locked), 13, 3),
+        ("2", ragged, 2, 0),
+        ("2, no record", Vec::new(), 2, 0),
+        ("2, 15 bytes", alone[..15].to_vec(), 2, 0),
+        ("2, 17 bytes", [&alone[..], &[0]].concat(), 2, 0),
+        ("3", thick, 3, 0),
+        ("5", bytes(&long), 5, 66),
+        ("6", bytes(&linked), 6, 1),
+        ("7", bytes(&many), 7, 0),
+        ("8", bytes(&twins), 8, 5),
     ]
-    .into_iter()
-    .flatten()
-    .collect()
+}
+
+/// Each outline has the faults of those after it: 2, 3, 5, 6, 7, 8, 13. All of them come before 9.
+fn order() -> Vec<WriteCase> {
+    let locked = bytes(&locking(&[3], tree_a()));
+    faulty_outlines()
+        .into_iter()
+        .chain([("13", locked, 13, 3)])
+        .flat_map(|(name, outline, number, place)| refused(name, &outline, number, place))
+        .collect()
 }
 
 /// The outline with every number as long as can be, and its pairs.

@@ -1,45 +1,9 @@
 //! What holds of every choice, memory that is used again, calls at the same time, and a small
 //! stack.
 
-use crate::support::{chain, headed_a, locked_a, pairs, sound, star, tree_a, WAYS};
-use plates::{choose, choose_in, Outline, Record, Refusal, Tree, Way, Work};
-use plates::{MOST_COUNT, MOST_RECORDS};
-use std::iter::successors;
+use crate::support::{chain, cost, diversity, outlines, pairs, sound, tree_a, WAYS};
+use plates::{choose, choose_in, Refusal, Way, Work, MOST_COUNT, MOST_RECORDS};
 use std::thread;
-
-/// Outlines of different sizes, larger and smaller in turn, with headings and locks and without.
-fn outlines() -> [Outline; 8] {
-    let uneven = Tree::group(
-        2,
-        [
-            Tree::taxon(5, 3, 4),
-            Tree::group(1, [star(&[(2, 1), (9, 6)]), Tree::taxon(6, 4, 0)]),
-            Tree::taxon(7, 8, 5),
-        ],
-    );
-    [
-        tree_a(),
-        sound(pairs(6, 3, 1)),
-        sound(Tree::taxon(1, 1, 1)),
-        sound(uneven),
-        sound(star(&[(4, 1); 64])),
-        sound(headed_a(1, 2)),
-        sound(locked_a(0, 0, &[13])),
-        sound(locked_a(1, 2, &[11, 13])),
-    ]
-}
-
-/// Whether a record is, or has below it, one of the taxa.
-fn holds(outline: &Outline, taxa: &[Record], record: Record) -> bool {
-    let mut members = successors(outline.record(record.first), |m| outline.record(m.next));
-    taxa.contains(&record) || members.any(|member| holds(outline, taxa, member))
-}
-
-/// What a set of taxa costs: the prices of the records that are, or have below them, one of these.
-fn cost(outline: &Outline, taxa: &[Record]) -> u32 {
-    let paid = outline.records().filter(|r| holds(outline, taxa, *r));
-    paid.map(|record| record.price).sum()
-}
 
 #[test]
 fn numbers_are_those_of_the_taxa() {
@@ -47,6 +11,7 @@ fn numbers_are_those_of_the_taxa() {
         for way in WAYS {
             let choice = choose(&outline, 12, way).unwrap();
             assert_eq!(choice.cost(), cost(&outline, choice.taxa()));
+            assert_eq!(choice.diversity(), diversity(&outline, choice.taxa(), way));
             assert_eq!(choice.spare(), 12 - choice.cost());
             for (record, mark) in outline.records().zip(choice.marks()) {
                 assert_eq!(choice.taxa().contains(&record), *mark == 1);

@@ -1,5 +1,5 @@
 //! Tests of the bindings: document 01's cases, headings that take space, locked taxa, the refusals,
-//! building trees, reading and writing texts, and calls that share memory or run at once.
+//! building trees, reading and writing texts, the sheet, and calls that share memory or run at once.
 
 mod cases;
 mod choosing;
@@ -7,6 +7,7 @@ mod headings;
 mod locks;
 mod outlines;
 mod refusals;
+mod sheets;
 mod support;
 mod texts;
 mod trees;

@@ -226,13 +226,16 @@ fn first_that_holds_is_given() {
 
 #[test]
 fn numbers_and_places() {
-    for number in 1..=13 {
-        let refusal = Refusal::from_parts(number, 7).expect("thirteen refusals");
+    for number in 1..=14 {
+        let refusal = Refusal::from_parts(number, 7).expect("fourteen refusals");
         assert_eq!(refusal.number(), number);
-        let has_place = [5, 6, 8, 13].contains(&number);
+        let has_place = [5, 6, 8, 13, 14].contains(&number);
         assert_eq!(refusal.place(), has_place.then_some(7));
         assert!(!matches!(refusal, Refusal::Other { .. }));
     }
+    let without_place = Refusal::from_parts(14, 0);
+    assert_eq!(without_place, Some(Refusal::BadMarks { record: None }));
+    assert_eq!(without_place.and_then(Refusal::place), None);
     for place in [0, 7] {
         assert_eq!(Refusal::from_parts(0, place), None);
     }
@@ -280,6 +283,13 @@ fn refusals_are_errors_with_a_sentence() {
         "record 2: it has a heading's price, a lock or a plate of more than 9 digits, for which \
          a text has no form"
     );
+    let mark = Refusal::BadMarks { record: Some(2) }.to_string();
+    assert_eq!(
+        mark,
+        "record 2: its mark is neither 0 nor 1, or is 1 at a group"
+    );
+    let marks = Refusal::BadMarks { record: None }.to_string();
+    assert_eq!(marks, "there are fewer marks than records");
     let later = |place| Refusal::from_parts(4_000, place).map(|refusal| refusal.to_string());
     let sentence = "refusal 4000, which these bindings do not know";
     assert_eq!(later(0).as_deref(), Some(sentence));

@@ -1,6 +1,7 @@
 //! Trees, bytes and numbers that several tests use.
 
-use plates::{Choice, Outline, Tree, Way};
+use plates::{Choice, Outline, Record, Tree, Way};
+use std::iter::successors;
 
 pub const WAYS: [Way; 2] = [Way::Rooted, Way::Unrooted];
 
@@ -16,6 +17,17 @@ pub const TREE_A: [Fields; 5] = [
     [4, 0, 4, 3, 11],
     [0, 0, 2, 1, 12],
     [0, 0, 5, 2, 13],
+];
+
+/// Groups 2 and 3 with two taxa each, numbered in turn.
+pub const INTERLEAVED: [Fields; 7] = [
+    [0, 2, 10, 0, 0],
+    [3, 4, 20, 0, 0],
+    [0, 5, 30, 0, 0],
+    [6, 0, 40, 1, 104],
+    [7, 0, 50, 2, 105],
+    [0, 0, 60, 3, 106],
+    [0, 0, 70, 4, 107],
 ];
 
 /// Plate and price of tree A's taxa.
@@ -57,8 +69,12 @@ pub fn bytes(records: &[Fields]) -> Vec<u8> {
     bytes
 }
 
+pub fn outline(records: &[Fields]) -> Outline {
+    Outline::from_bytes(&bytes(records)).expect("the outline is sound")
+}
+
 pub fn tree_a() -> Outline {
-    Outline::from_bytes(&bytes(&TREE_A)).expect("tree A is sound")
+    outline(&TREE_A)
 }
 
 /// Taxa under a root of length 0, with lengths and prices as given, and plates from 1.
@@ -104,6 +120,53 @@ pub fn locked_a(root: u32, group: u32, locked: &[u32]) -> Tree {
 
 pub fn sound(tree: Tree) -> Outline {
     tree.outline().expect("the tree is sound")
+}
+
+/// Outlines of different sizes, larger and smaller in turn, with headings and locks and without.
+pub fn outlines() -> [Outline; 9] {
+    let uneven = Tree::group(
+        2,
+        [
+            Tree::taxon(5, 3, 4),
+            Tree::group(1, [star(&[(2, 1), (9, 6)]), Tree::taxon(6, 4, 0)]),
+            Tree::taxon(7, 8, 5),
+        ],
+    );
+    [
+        tree_a(),
+        sound(pairs(6, 3, 1)),
+        sound(Tree::taxon(1, 1, 1)),
+        sound(uneven),
+        sound(star(&[(4, 1); 64])),
+        sound(headed_a(1, 2)),
+        sound(locked_a(0, 0, &[13])),
+        sound(locked_a(1, 2, &[11, 13])),
+        outline(&INTERLEAVED),
+    ]
+}
+
+/// How many of the taxa a record is, or has below it.
+fn held(outline: &Outline, taxa: &[Record], record: Record) -> usize {
+    let members = successors(outline.record(record.first), |m| outline.record(m.next));
+    let below: usize = members.map(|member| held(outline, taxa, member)).sum();
+    below + usize::from(taxa.contains(&record))
+}
+
+/// What a set of taxa costs: the prices of the records that are, or have below them, one of these.
+pub fn cost(outline: &Outline, taxa: &[Record]) -> u32 {
+    let paid = outline.records().filter(|r| held(outline, taxa, *r) > 0);
+    paid.map(|record| record.price).sum()
+}
+
+/// The lengths of the records that are, or have below them, one of the taxa; unrooted, of those
+/// that do not have them all.
+pub fn diversity(outline: &Outline, taxa: &[Record], way: Way) -> u32 {
+    let counts = |record: &Record| match held(outline, taxa, *record) {
+        0 => false,
+        held => way == Way::Rooted || held < taxa.len(),
+    };
+    let counted = outline.records().filter(counts);
+    counted.map(|record| record.length).sum()
 }
 
 pub fn plates(choice: &Choice) -> Vec<u32> {

@@ -1,28 +1,13 @@
 //! Outlines as text: the spelling, reading it back, what has no form in a text, and the buffers.
 
-use crate::support::{bytes, chain, changed, headed_a, locked_a, pairs, sound, star, star_records};
-use crate::support::{tree_a, Fields, LOCK, PRICES_A, TREE_A};
+use crate::support::{bytes, chain, changed, headed_a, locked_a, outline, pairs, sound, star};
+use crate::support::{star_records, tree_a, Fields, INTERLEAVED, LOCK, PRICES_A, TREE_A};
 use plates::{sys, Newick, Outline, Refusal, Tree};
 use plates::{MOST_PLATE, MOST_RECORDS, MOST_TAXA, RECORD_BYTES};
 use std::thread;
 
 const WRITTEN_A: &str = "((11:4,12:2):3,13:5):0;";
 const PAIRS_A: [u32; 6] = [11, 3, 12, 1, 13, 2];
-
-/// Groups 2 and 3 with two taxa each, numbered in turn.
-const INTERLEAVED: [Fields; 7] = [
-    [0, 2, 10, 0, 0],
-    [3, 4, 20, 0, 0],
-    [0, 5, 30, 0, 0],
-    [6, 0, 40, 1, 104],
-    [7, 0, 50, 2, 105],
-    [0, 0, 60, 3, 106],
-    [0, 0, 70, 4, 107],
-];
-
-fn outline(records: &[Fields]) -> Outline {
-    Outline::from_bytes(&bytes(records)).expect("the outline is sound")
-}
 
 fn written(outline: &Outline) -> Newick {
     outline.to_newick().expect("the outline has a text")
@@ -122,7 +107,10 @@ fn the_longest_numbers_are_written_and_read() {
         let outline = read(&long);
         assert_eq!(written(&outline), long);
         assert_eq!(long.text.len(), len);
-        assert_eq!(len, sys::written_len(outline.records().len(), outline.taxa().count()));
+        assert_eq!(
+            len,
+            sys::written_len(outline.records().len(), outline.taxa().count())
+        );
     }
 }
 

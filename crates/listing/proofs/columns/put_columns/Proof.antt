@@ -2,7 +2,7 @@
 use Prim.Native.Nat.{_-_}
 use borrow.Author.Needs.{needs}
 use Rattle.listing.specs.FromBuffers.{columnText, columnsText}
-use Rattle.listing.proofs.Walks.{Walking, walking-starts, walking-fits, walking-goes, walking-ends}
+use Rattle.text.proofs.Walks.{Walking, walking-starts, walking-fits, walking-goes, walking-ends}
 use Rattle.listing.proofs.columns.put_columns.Statement.{statement}
 use Rattle.listing.proofs.columns.put_columns.Tie as tie
 

@@ -1,4 +1,4 @@
--- `listing::list::list_bytes` meets its contract: choosing answers the call that the bytes make, and the lines come from its marks and curve.
+-- `listing::list::list_bytes` meets its contract: choosing answers the call that the bytes make, and the lines come from its curve and from the sheet of its marks.
 use Prim.Native.Nat.{ℕ, _+_, _*_, _-_, _≤_}
 use mathlib.Core.Path.{_≡_, refl, sym, ap, subst, _∙_}
 use mathlib.Core.List.{List, [], _∷_}
@@ -7,13 +7,12 @@ use borrow.Author.Needs.{needs}
 use lib.ListN.{length, take, drop}
 use Rattle.refusals.specs.Refusals.{refusal}
 use Rattle.refusals.proofs.Refusals.{refusal-numbered}
-use Rattle.outline.specs.Outline.{size}
 use Rattle.choice.specs.Answer.{Call, told}
 use Rattle.choice.proofs.Answers.{selected-solvable}
 use Rattle.text.specs.Written.{LongEnough}
-use Rattle.listing.specs.FromBuffers.{wholeText}
+use Rattle.listing.specs.FromBuffers.{wholeText, Listed}
 use Rattle.listing.specs.Printed.{callWith, callOf, refusalText, answerText}
-use Rattle.listing.proofs.Answers.{call-made, refused-text, is-selected, selected-text}
+use Rattle.listing.proofs.Answers.{call-made, refused-text, selection-listed, is-selected, selected-text}
 use Rattle.listing.proofs.list.list_bytes.Statement.{statement}
 use Rattle.listing.proofs.list.list_bytes.Tie as tie
 
@@ -63,7 +62,7 @@ selection-printed : (c : tie.After-known-told2) →
     let chosen = c .before .before .before .before .before .before in
     let given = c .before .answer2 .given .0 in
     wholeText (count chosen ∷ way chosen ∷ given .0 ∷ given .1 .0 ∷ given .1 .1 .0 ∷ []) (chosen .choose .last .1 .1 .1 .1 .0) (count chosen + 1)
-    (outline chosen) (chosen .choose .last .1 .1 .1 .0)
+    (outline chosen) (way chosen) (chosen .choose .last .1 .1 .1 .0)
     ≡ answerText (callOf (start chosen .args .bytes .now))
 unfolding callWith
 selection-printed c =
@@ -72,17 +71,18 @@ selection-printed c =
     selected-text (call chosen) (g .0) (g .1 .0) (g .1 .1 .0) _ (sym (ap told is) ∙ chosen .choose .ensures .told-reply)
     (chosen .choose .ensures .marks-written) (chosen .choose .ensures .curve-written) ∙ ap answerText (made chosen)
 
--- its columns are within the curve, and its records within the marks
+-- its columns are within the curve, and its marks are listed
 within-buffers : (c : tie.After-known-told2) →
     let chosen = c .before .before .before .before .before .before in
-    (2 * (count chosen + 1) ≤ length (chosen .choose .last .1 .1 .1 .1 .0)) × (size (outline chosen) ≤ length (chosen .choose .last .1 .1 .1 .0))
+    (2 * (count chosen + 1) ≤ length (chosen .choose .last .1 .1 .1 .1 .0)) × Listed (outline chosen) (way chosen) (chosen .choose .last .1 .1 .1 .0)
 unfolding callWith
 within-buffers c =
     let chosen = c .before .before .before .before .before .before in
     let (g, is) = c .before .answer2 .given in
-    let selection = is-selected _ (g .0) (g .1 .0) (g .1 .1 .0) _ (sym (ap told is) ∙ chosen .choose .ensures .told-reply) in
-    let passed = selected-solvable (call chosen) selection in
-    (omega (arith, passed .curve-long, chosen .choose .kept .1 .1 .1 .1 .0), omega (arith, passed .marks-long, chosen .choose .kept .1 .1 .1 .0))
+    let selection = is-selected (call chosen) (g .0) (g .1 .0) (g .1 .1 .0) _ (sym (ap told is) ∙ chosen .choose .ensures .told-reply) in (
+      omega (arith, selected-solvable (call chosen) selection .curve-long, chosen .choose .kept .1 .1 .1 .1 .0),
+      selection-listed (call chosen) selection (chosen .choose .ensures .marks-written),
+    )
 
 put-selection-requires : tie.Need-put-selection-requires
 put-selection-requires c κs =

@@ -1,24 +1,23 @@
--- `listing::taxa::put_taxa` meets its contract: each turn writes a record's line, if it is a chosen taxon.
-use Prim.Native.Nat.{_+_, _-_}
+-- `listing::taxa::put_taxa` meets its contract: each turn writes a row's line.
+use Prim.Native.Nat.{_-_}
 use borrow.Author.Needs.{needs}
-use Rattle.outline.specs.Outline.{records}
+use Rattle.text.proofs.Walks.{Walking, walking-starts, walking-fits, walking-goes, walking-ends}
 use Rattle.listing.specs.FromBuffers.{taxonText, taxaText}
-use Rattle.listing.proofs.Walks.{Walking, walking-starts, walking-fits, walking-goes, walking-ends}
 use Rattle.listing.proofs.taxa.put_taxa.Statement.{statement}
 use Rattle.listing.proofs.taxa.put_taxa.Tie as tie
 
 abbrev Inv-loop : tie.InvT-loop
-Inv-loop buffer₀ at o marks n to₀ r₀ buffer to r = Walking (taxonText o marks) 1 n at buffer₀ r to buffer
+Inv-loop buffer₀ at sheet rows to₀ k₀ buffer to k = Walking (taxonText sheet) 0 rows at buffer₀ k to buffer
 
 abbrev μ-loop : tie.MeasureT-loop
-μ-loop buffer₀ at o marks n to₀ r₀ buffer to r = n + 1 - r
+μ-loop buffer₀ at sheet rows to₀ k₀ buffer to k = rows - k
 
 loop-holds : tie.Need-loop-holds Inv-loop μ-loop
-unfolding taxaText records
-loop-holds c = walking-starts _ _ _ _ _ (c .before .before .before .pre .1)
+unfolding taxaText
+loop-holds c = walking-starts _ _ _ _ _ (c .before .before .pre .1)
 
 put-taxon-requires : tie.Need-put-taxon-requires Inv-loop μ-loop
-put-taxon-requires c κs = (search needs, search needs, walking-fits (c .before .before .loop .inv) (search needs))
+put-taxon-requires c κs = (search needs, walking-fits (c .before .before .loop .inv) (search needs))
 
 loop-again : tie.Need-loop-again Inv-loop μ-loop
 loop-again c =
@@ -26,7 +25,7 @@ loop-again c =
     walking-goes (put .before .before .before .loop .inv) (search needs) (put .put-taxon .ensures)
 
 returns : tie.Need-returns Inv-loop μ-loop
-unfolding taxaText records
+unfolding taxaText
 returns c = walking-ends (c .before .loop .inv) (search needs)
 
 pub put-taxa-spec : {M : Type 1} → statement M

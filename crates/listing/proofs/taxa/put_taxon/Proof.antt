@@ -1,29 +1,37 @@
 -- `listing::taxa::put_taxon` meets its contract.
+use Prim.Native.Nat.{_+_, _*_}
+use native.Mathlib.Omega.{arith}
 use borrow.Author.Needs.{needs}
-use borrow.Author.Tests.{eq-eqb, ne-eqb}
-use Rattle.diversity.specs.Diversity.{chosen}
-use Rattle.text.proofs.Writing.{written-nothing}
 use Rattle.listing.specs.FromBuffers.{taxonText}
 use Rattle.listing.proofs.taxa.put_taxon.Statement.{statement}
 use Rattle.listing.proofs.taxa.put_taxon.Tie as tie
 
-returns : tie.Need-returns
-unfolding taxonText chosen
-returns c = rw (ne-eqb _ _ (c .if1 .taken)) (written-nothing _ _)
+-- a number of the sheet fits
+cast-t16 : tie.Need-cast-t16
+cast-t16 c =
+    let known = c .shared-slice-known4 .given in
+    let k = c .before .before .before .before .before .args .k in
+    omega (arith, known (3 * k), known (3 * k + 1), known (3 * k + 2))
+
+cast-t17 : tie.Need-cast-t17
+cast-t17 c =
+    let known = c .shared-slice-known4 .given in
+    let k = c .before .before .before .before .before .args .k in
+    omega (arith, known (3 * k), known (3 * k + 1), known (3 * k + 2))
+
+cast-t18 : tie.Need-cast-t18
+cast-t18 c =
+    let known = c .shared-slice-known4 .given in
+    let k = c .before .before .before .before .before .args .k in
+    omega (arith, known (3 * k), known (3 * k + 1), known (3 * k + 2))
 
 put-line-requires : tie.Need-put-line-requires
-unfolding taxonText chosen
-put-line-requires c κs =
-    let else = c .before .before .before .before in
-    let fits = rw (eq-eqb _ _ (else .if1 .left)) at (else .before .before .before .before .before .pre .2) in
-    (search needs, rw (c .before .before .before .plate-of .ensures, c .before .before .price-of .ensures) fits)
+unfolding taxonText
+put-line-requires c κs = (search needs, c .before .before .before .before .before .before .before .pre .1)
 
-returns-2 : tie.Need-returns-2
-unfolding taxonText chosen
-returns-2 c =
-    let put = c .before .before in
-    let price = put .before .before .before in
-    rw (eq-eqb _ _ (price .before .before .if1 .left), ← price .before .plate-of .ensures, ← price .price-of .ensures) (put .put-line .ensures)
+returns : tie.Need-returns
+unfolding taxonText
+returns c = c .before .before .put-line .ensures
 
 pub put-taxon-spec : {M : Type 1} → statement M
 put-taxon-spec =
@@ -31,12 +39,19 @@ put-taxon-spec =
     (tie.spec
     (λ c. search needs)
     (λ c. search needs)
-    returns
-    (λ c κs. search needs)
-    (λ c κs. search needs)
     (λ c. search needs)
     (λ c. search needs)
+    (λ c. search needs)
+    (λ c. search needs)
+    (λ c. search needs)
+    (λ c. search needs)
+    (λ c. search needs)
+    (λ c. search needs)
+    (λ c. search needs)
+    cast-t16
+    cast-t17
+    cast-t18
     (λ c. search needs)
     put-line-requires
     (λ c. search needs)
-    returns-2)
+    returns)

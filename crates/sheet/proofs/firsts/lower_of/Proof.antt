@@ -1,0 +1,13 @@
+-- `sheet::firsts::lower_of` meets its contract.
+use borrow.Author.Tests.{le-leb, lt-leb}
+use Rattle.sheet.proofs.firsts.lower_of.Statement.{statement}
+use Rattle.sheet.proofs.firsts.lower_of.Tie as tie
+
+returns : tie.Need-returns
+returns c = rw (le-leb _ _ (c .if1 .taken))
+
+returns-2 : tie.Need-returns-2
+returns-2 c = rw (lt-leb _ _ (c .if1 .left))
+
+pub lower-of-spec : {M : Type 1} → statement M
+lower-of-spec = tie.close (tie.spec returns returns-2)
