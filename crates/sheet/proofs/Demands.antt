@@ -7,7 +7,7 @@ use mathlib.Core.List.{List}
 use native.Mathlib.Omega.{arith}
 use lib.Dec.{eqb, ltb}
 use lib.ListN.{length, getD, take, drop, length-take}
-use lib.Seq.{getD-take}
+use lib.Seq.{getD-take, take-all}
 use borrow.Author.Tests.{eqb-true, ne-eqb, le-ltb}
 use Rattle.lists.specs.Lists.{pick, from, lowest, over}
 use Rattle.lists.proofs.Buffers.{over-past}
@@ -33,7 +33,7 @@ use Rattle.sheet.specs.Sheet.{rowOf, rowsOf}
 use Rattle.sheet.specs.declared.answer.Answer.{Answer}
 use Rattle.sheet.proofs.Answers.{way-known, outline-accepted, set-long, marked-set}
 use Rattle.sheet.proofs.Opening.{quarters-opened}
-use Rattle.sheet.proofs.Sums.{quarters-sum, diversity-sum, rows-long, row-over}
+use Rattle.sheet.proofs.Sums.{quarters-sum, diversity-sum, rows-long, row-over, kth-taxon}
 
 -- the numbers told determine the answer
 pub told-determined : (a b : Answer) → told a ≡ told b → a ≡ b
@@ -143,10 +143,16 @@ module _ (c : Call) {r : Reply} {sheet : List ℕ} (x : Answered c r sheet) wher
     pub rows-given : RowsGiven c r sheet
     rows-given = record {
       row-true = each;
+      each-row = λ k l.
+          kth-taxon (c .outline) (markedSet c) (size (c .outline)) k (omega arith)
+          (omega (arith, adds-up .rows-true, ap (chosenTaxa (c .outline)) whole));
       rest =
           ap (drop (3 * r .rows)) sheet-is ∙ over-past (rowsOf (c .outline) (c .way) (markedSet c)) (c .sheet) (3 * r .rows) rows-are;
     }
       where
+        whole : take (size (c .outline)) (markedSet c) ≡ markedSet c
+        whole = take-all (size (c .outline)) (markedSet c) (omega (arith, set-long c passes))
+
         each : (t : ℕ) → IsRecord (c .outline) t → chosen (markedSet c) t ≡ true → TrueRow c sheet t
         each zero is e = absurd (omega (arith, is .low))
         each (suc i) is e = row-true i (omega (arith, is .high)) e

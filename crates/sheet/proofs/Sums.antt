@@ -4,8 +4,10 @@ use mathlib.Core.Path.{_≡_, refl, sym, ap, fun-ext, _∙_}
 use mathlib.Core.Bool.{Bool, true, false, _&&_}
 use mathlib.Core.List.{List, [], _∷_, _++_}
 use native.Mathlib.Omega.{arith}
+use lib.Dec.{ltb}
 use lib.ListN.{length, getD, take, length-append, List·getD-append}
 use lib.Seq.{take-length}
+use borrow.Author.Tests.{ltb-true, ltb-false}
 use Rattle.lists.specs.Lists.{pick, one, from, total, over}
 use Rattle.lists.proofs.Buffers.{over-at}
 use Rattle.lists.proofs.Walk.{from-both, from-last}
@@ -19,6 +21,7 @@ use Rattle.laws.proofs.Prefixes.{taxa-step, cost-step, diversity-step, cost-sta
 use Rattle.laws.proofs.Sums.{total-append, total-scale, total-ext, total-below}
 use Rattle.text.specs.Text.{texts}
 use Rattle.text.proofs.Texts.{texts-length, texts-both, texts-last}
+use Rattle.sheet.specs.Demands.{After}
 use Rattle.sheet.specs.Sheet.{added, rowOf, rowsOf, sumOf}
 
 -- one number more
@@ -147,3 +150,23 @@ set-few o s x =
     second-least : (a b : Bool) → one (a && b) ≤ one b
     second-least true b = omega arith
     second-least false b = omega arith
+
+-- the taxon that has k of the set's taxa before it
+pub kth-taxon : (o s : List ℕ) (n k : ℕ) → n ≤ size o → k < chosenTaxa o (take n s) → (t : ℕ) × After o s k t
+kth-taxon o s zero k h l = absurd (omega (arith, taxa-nothing o))
+kth-taxon o s (suc i) k h l = go (chosen s (suc i)) refl (ltb k (chosenTaxa o (take i s))) refl (kth-taxon o s i k (omega arith))
+  where
+    go : (b : Bool) → chosen s (suc i) ≡ b → (c : Bool) → ltb k (chosenTaxa o (take i s)) ≡ c
+        → (k < chosenTaxa o (take i s) → (t : ℕ) × After o s k t) → (t : ℕ) × After o s k t
+    go b e true d earlier = earlier (ltb-true _ _ d)
+    go false e false d earlier = earlier (omega (arith, taxa-step s i o h, ap one e))
+    go true e false d earlier =
+        let last : k ≡ chosenTaxa o (take i s) = omega (arith, taxa-step s i o h, ap one e, ltb-false k (chosenTaxa o (take i s)) d) in
+        let place : suc i - 1 ≡ i = omega arith in (
+          suc i,
+          record {
+            is-record = record { low = omega arith; high = omega arith };
+            is-chosen = e;
+            before = ap (λ j. chosenTaxa o (take j s)) place ∙ sym last;
+          },
+        )

@@ -70,9 +70,16 @@ pub record TrueRow (c : Call) (sheet : List ℕ) (r : ℕ) : Type 0 where
   pub own-and-headings : quartersAt sheet k
       ≡ price (c .outline) r + total (λ q. pick (opensFirst (c .outline) (markedSet c) r q) (price (c .outline) q) 0) (records (c .outline))
 
--- each chosen taxon has its row, and what is past the rows is unchanged
+-- taxon t of the set has k of the set's taxa before it
+pub record After (o s : List ℕ) (k t : ℕ) : Type 0 where
+  pub is-record : IsRecord o t
+  pub is-chosen : chosen s t ≡ true
+  pub before : chosenTaxa o (upTo s (t - 1)) ≡ k
+
+-- each chosen taxon has its row, each row is a chosen taxon's, and what is past the rows is unchanged
 pub record RowsGiven (c : Call) (r : Reply) (sheet : List ℕ) : Type 0 where
   pub row-true : (t : ℕ) → IsRecord (c .outline) t → chosen (markedSet c) t ≡ true → TrueRow c sheet t
+  pub each-row : (k : ℕ) → k < r .rows → (t : ℕ) × After (c .outline) (markedSet c) k t
   pub rest : drop (3 * r .rows) sheet ≡ drop (3 * r .rows) (c .sheet)
 
 -- a call of `sheet` is handed the outline and the way of a call of `choose`, the marks as that left them, and room for their rows
