@@ -8,12 +8,14 @@
  * no other is better. In the literature the problem is called phylogenetic diversity under a budget (Pardi and Goldman,
  * Systematic Biology 56(3), 2007).
  *
- *     plates_read     the outline of a tree in Newick form
- *     plates_write    an outline's tree in Newick form again
- *     plates_check    whether an outline is sound, and if not what is wrong and where
- *     plates_find     the record of the taxon that has a given plate
- *     plates_choose   the best taxa for a page count
- *     plates_sheet    the taxa of a set, with the quarters and the diversity that each adds
+ *     plates_read         the outline of a tree in Newick form
+ *     plates_write        an outline's tree in Newick form again
+ *     plates_check        whether an outline is sound, and if not what is wrong and where
+ *     plates_find         the record of the taxon that has a given plate
+ *     plates_choose       the best taxa for a page count
+ *     plates_sheet        the taxa of a set, with the quarters and the diversity that each adds
+ *     plates_view_house   an outline as a house reader gets it, as it is
+ *     plates_view_buyer   an outline as a buyer's reader gets it, without prices and locks
  *
  * Link with libplates.a (-lplates). It needs nothing but memcpy and memset, which every C library has.
  *
@@ -28,6 +30,7 @@
  *     outline    the tree, as an array of records
  *     marks      a set of taxa, as a number for each record: 1 for a taxon of the set, 0 for every other record
  *     sheet      the taxa of a set in record order, each with its plate, the quarters and the diversity that it adds
+ *     view       an outline as a reader gets it: a house reader as it is, a buyer's reader without prices and locks
  *
  *
  * THE OUTLINE
@@ -182,20 +185,43 @@
  * one too. It need not fit a page count, nor have the locked taxa.
  *
  *
+ * WHAT A BUYER'S EDITOR MAY SEE
+ *
+ * Prices and locks are the publisher's business. plates_view_house gives a house reader the records as they are;
+ * plates_view_buyer gives a buyer's reader the same records with every price 0, those of headings too, and without locks.
+ * Record 5 of tree A, if it were locked, in bytes (hexadecimal):
+ *
+ *     house   00 00   00 00   05 00 00 00   02 00 00 00   0d 00 00 80
+ *     buyer   00 00   00 00   05 00 00 00   00 00 00 00   0d 00 00 00
+ *             next    first   length        price         plate
+ *
+ * If two outlines that plates_check accepts differ in prices and locks alone, headings' prices included, a buyer's reader gets
+ * the same bytes for both. That holds for the first PLATES_OUTLINE_LEN(N) bytes of any two views that are long enough, and for
+ * all bytes of two views that were alike before the calls. Bytes beyond the records stay as they were, so hand on the first
+ * PLATES_OUTLINE_LEN(N) only.
+ *
+ * A buyer's view is itself an outline that plates_check accepts, with the same links, lengths and plates. Every other function
+ * takes it: plates_find finds each plate at the same record, plates_choose chooses every taxon, at count 0 too, and plates_write
+ * writes it, with prices of 0, if no plate has 10 digits.
+ *
+ * A refusal may still depend on a price, and so may its place: a price above 65,535 is refused (5) at its record. Nothing is
+ * written to the view then.
+ *
+ *
  * WHAT THE CALLER HAS TO KEEP
  *
  * marks, curve and work of plates_choose are lent space, and so are the outline of plates_read, the text and pairs of
- * plates_write and the sheet of plates_sheet: buffers that a result is written to, and that a refusal leaves as they were.
- * answer and place are no lent space. They carry the numbers that a call gives, so they are written in any case, on a refusal
- * too.
+ * plates_write, the sheet of plates_sheet and the view of plates_view_house and plates_view_buyer: buffers that a result is
+ * written to, and that a refusal leaves as they were. answer and place are no lent space. They carry the numbers that a call
+ * gives, so they are written in any case, on a refusal too.
  *
  * - No pointer is null, not even where the length is 0, and each points to at least as many elements as its length says.
- *   Lengths are numbers of elements: text_len, outline_len and marks_len in bytes, pairs_len, curve_len and sheet_len in
- *   uint32_t, work_len in uint64_t. The answer of plates_choose has 6 elements, that of plates_read has 3, that of plates_write
- *   has 4, that of plates_sheet has 5, place has 1.
- * - Each pointer is aligned as its element type asks. text, outline and marks may begin at any byte.
- * - What a call writes (lent space, answer, place) overlaps nothing else that it is handed. What it only reads may overlap: the
- *   outline and the marks of plates_sheet may be the same memory.
+ *   Lengths are numbers of elements: text_len, outline_len, marks_len and view_len in bytes, pairs_len, curve_len and sheet_len
+ *   in uint32_t, work_len in uint64_t. The answer of plates_choose has 6 elements, that of plates_read has 3, that of
+ *   plates_write has 4, that of plates_sheet has 5, that of plates_view_house and plates_view_buyer has 2, place has 1.
+ * - Each pointer is aligned as its element type asks. text, outline, marks and view may begin at any byte.
+ * - What a call writes (lent space, answer, place) overlaps nothing else that it is handed: a view is not made in the place of
+ *   its outline. What a call only reads may overlap: the outline and the marks of plates_sheet may be the same memory.
  * - While a call runs, nobody else writes what it is handed, and nobody else reads what it writes.
  *
  * What stands before a call where it writes makes no difference; that need not be initialised.
@@ -207,11 +233,11 @@
  *   lengths: what is not sound is refused, and a refusal of the table below is the only way for a call to fail.
  * - Nothing is allocated, no file is touched, and there is no global state. Calls on different buffers may run at the same
  *   time, and may share what they only read.
- * - Nothing is written but what is named at each function, and no byte 0 behind a text. Only plates_read writes an outline, and
- *   only plates_choose writes marks.
- * - The time of a call is bounded. That of plates_choose grows linearly with the count; checking, finding and the sheet take at
- *   most a few steps for each pair of records, writing also for each byte of the text, and reading also for each byte of the
- *   text and for each record with each pair of numbers.
+ * - Nothing is written but what is named at each function, and no byte 0 behind a text. Only plates_read writes to the outline
+ *   that it is handed, and only plates_choose to the marks.
+ * - The time of a call is bounded. That of plates_choose grows linearly with the count; checking, finding, the sheet and the
+ *   views take at most a few steps for each pair of records, writing also for each byte of the text, and reading also for each
+ *   byte of the text and for each record with each pair of numbers.
  * - Little stack is used, since the table stands in work: choosing, writing and the sheet nest no deeper than there are records,
  *   which takes less than 64 KB on x86-64 for the deepest outlines. Reading a text takes less than 70 KB, however deep it is:
  *   its calls nest for 127 records, and no deeper.
@@ -260,13 +286,15 @@ extern "C" {
  *     curve     uint32_t    PLATES_CURVE_LEN(count)
  *     work      uint64_t    PLATES_WORK_LEN(records, count)
  *     sheet     uint32_t    PLATES_SHEET_LEN(taxa)
+ *     view      bytes       PLATES_OUTLINE_LEN(records)
  *
  * text is that of plates_write, and its length one that always suffices: 18 bytes for each taxon and 10 for each group, as many
  * as there are where every plate has 9 digits and every length 7. The other lengths are exact; the taxa of the sheet are those
  * of the marked set.
  *
  * answer is no buffer, and always has PLATES_ANSWER_LEN uint32_t, for plates_read PLATES_READ_ANSWER_LEN, for plates_write
- * PLATES_WRITE_ANSWER_LEN and for plates_sheet PLATES_SHEET_ANSWER_LEN: see below.
+ * PLATES_WRITE_ANSWER_LEN, for plates_sheet PLATES_SHEET_ANSWER_LEN, and for plates_view_house and plates_view_buyer
+ * PLATES_VIEW_ANSWER_LEN: see below.
  */
 #define PLATES_OUTLINE_LEN(records) (PLATES_CAST_(size_t, PLATES_RECORD_BYTES) * PLATES_CAST_(size_t, records))
 #define PLATES_PAIRS_LEN(taxa) (PLATES_CAST_(size_t, 2) * PLATES_CAST_(size_t, taxa))
@@ -295,9 +323,9 @@ enum plates_way {
 };
 
 /*
- * What plates_read, plates_write, plates_check, plates_choose and plates_sheet give: PLATES_OK or a refusal. Refusals are judged
- * in an order, that of their numbers unless the function says another, and the first that holds is given. A refusal has a place:
- * the number of the record at fault, from 1, or 0 where no one record is.
+ * What every function of the library but plates_find gives: PLATES_OK or a refusal. Refusals are judged in an order, that of
+ * their numbers unless the function says another, and the first that holds is given. A refusal has a place: the number of the
+ * record at fault, from 1, or 0 where no one record is.
  *
  * Later versions add refusals, with numbers from 15 on. So treat any number other than PLATES_OK as a refusal, also one that is
  * not named here: give a switch over these a default.
@@ -324,8 +352,8 @@ enum plates_refusal {
     /* An earlier taxon has the same plate, whatever their locks; place is the lowest such record, so the later of the two. */
     PLATES_DUPLICATE_PLATE = 8,
     /* marks, curve or work of plates_choose is shorter than PLATES_MARKS_LEN, PLATES_CURVE_LEN or PLATES_WORK_LEN says, or the
-     * outline of plates_read than PLATES_OUTLINE_LEN says, or the text or the pairs of plates_write than what is to be written,
-     * or the sheet than PLATES_SHEET_LEN says; place 0. */
+     * outline of plates_read or a view than PLATES_OUTLINE_LEN says, or the text or the pairs of plates_write than what is to be
+     * written, or the sheet than PLATES_SHEET_LEN says; place 0. */
     PLATES_BUFFER_TOO_SHORT = 9,
     /* The text is no tree in the form above, or has more than 16,384 bytes; place 0. */
     PLATES_BAD_TEXT = 10,
@@ -390,6 +418,12 @@ enum plates_sheet_answer {
     PLATES_SHEET_ANSWER_DIVERSITY = 4,
     /* The number of elements. */
     PLATES_SHEET_ANSWER_LEN = 5
+};
+
+/* The same for plates_view_house and plates_view_buyer, which give no more than number and place. */
+enum plates_view_answer {
+    /* The number of elements. */
+    PLATES_VIEW_ANSWER_LEN = 2
 };
 
 /*
@@ -471,6 +505,29 @@ uint32_t plates_choose(const uint8_t *outline, size_t outline_len, uint32_t coun
  */
 uint32_t plates_sheet(const uint8_t *outline, size_t outline_len, uint32_t way,
                       const uint8_t *marks, size_t marks_len, uint32_t *sheet, size_t sheet_len, uint32_t answer[5]);
+
+/*
+ * What a house reader gets: the records as they are.
+ *
+ * Gives PLATES_OK, or the first of refusals 2, 3 and 5 to 9 that holds, and writes both elements of answer in any case. On
+ * PLATES_OK, for N records:
+ *
+ *     view   the first PLATES_OUTLINE_LEN(N): the bytes of the outline
+ *
+ * Bytes beyond these stay as they were, so the view may be longer than needed. On a refusal all of it stays as it was. A view of
+ * PLATES_MOST_OUTLINE_LEN bytes has room for every outline.
+ */
+uint32_t plates_view_house(const uint8_t *outline, size_t outline_len, uint8_t *view, size_t view_len, uint32_t answer[2]);
+
+/*
+ * What a buyer's reader gets: the records without prices and locks.
+ *
+ * As plates_view_house, with the same refusals, but for what is written. On PLATES_OK, for N records:
+ *
+ *     view   the first PLATES_OUTLINE_LEN(N): the bytes of the outline, but the price of each record is 0, and so is bit 31 of
+ *            its plate field
+ */
+uint32_t plates_view_buyer(const uint8_t *outline, size_t outline_len, uint8_t *view, size_t view_len, uint32_t answer[2]);
 
 /* A number in one to four bytes, least significant first. For the functions below. */
 static inline void plates_put_field_(uint8_t *at, size_t bytes, uint32_t value) {

@@ -1,5 +1,5 @@
-//! Measures `plates_choose` beside clearing `work`, IQ-TREE 2, GLPK and two tables in Rust, and `plates_read`, `plates_write` and
-//! `plates_sheet` beside a plain reader, a plain writer and a plain lister in Rust, and prints the times in Markdown. With
+//! Measures `plates_choose` beside clearing `work`, IQ-TREE 2, GLPK and two tables in Rust, and `plates_read`, `plates_write`,
+//! `plates_sheet` and both views beside a plain reader, writer, lister and viewer in Rust, and prints the times in Markdown. With
 //! `--beside` it measures `plates_choose` beside another build's instead, to see what a change costs.
 
 mod beside;
@@ -17,6 +17,8 @@ mod report;
 mod scratch;
 mod times;
 mod tree;
+mod viewer;
+mod viewing;
 mod writer;
 mod writing;
 
@@ -29,6 +31,7 @@ use report::Missing;
 use scratch::Scratch;
 use std::path::Path;
 use std::process::ExitCode;
+use viewing::Viewing;
 use writing::Writing;
 
 const USAGE: &str = "\
@@ -94,10 +97,14 @@ fn run(plan: &Plan) -> Result<(), String> {
     let readings = measured(plan, reading::all(), Reading::measure);
     let writings = measured(plan, writing::all(), Writing::measure);
     let listings = measured(plan, listing::all(), Listing::measure);
+    let viewings = viewing::all();
+    let agreement = viewing::agreement(&viewings);
+    let viewings = measured(plan, viewings, Viewing::measure);
     print(plan, &groups, &sizes);
     report::readings(&readings);
     report::writings(&writings);
     report::listings(&listings);
+    report::viewings(&viewings, agreement);
     Ok(())
 }
 
@@ -157,7 +164,7 @@ fn measure(
     Ok(())
 }
 
-/// The readings, the writings or the listings, with their times.
+/// The readings, the writings, the listings or the viewings, with their times.
 fn measured<T>(plan: &Plan, mut all: Vec<T>, measure: impl Fn(&mut T)) -> Vec<T> {
     for _ in 0..plan.rounds {
         for one in &mut all {

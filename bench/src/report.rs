@@ -6,6 +6,7 @@ use crate::glpk;
 use crate::listing::{self, Listing};
 use crate::reading::{self, Reading};
 use crate::times::{digits, microseconds, milliseconds, Times};
+use crate::viewing::Viewing;
 use crate::writing::{self, Writing};
 
 /// What stands in the table for a peer that has no time.
@@ -61,6 +62,13 @@ an earlier one has opened, and unrooted also from where the earlier ones meet, s
 the same refusals, and the check of the outline is that of plates. Both are called in turn; \"times\" says how many times as long
 plates takes. All groups have prices. The first outline is a random tree; of its taxa all are marked, every fourth, or none. In the
 last set the last mark is 2, and it is refused with 14.
+";
+
+const VIEWING: &str = "\
+Medians in microseconds. The plain viewer is Rust. It copies the bytes and, for a buyer's reader, goes over them once to clear prices
+and locks; it gives the same refusals, but the check of the outline is that of plates, whose time by itself is the last column. All
+are called in turn, after their answers and views were compared; \"times\" says how many times as long plates takes. The outlines are
+those of the first table. The last view is refused with 9.
 ";
 
 const BUILDS: &str = "\
@@ -368,6 +376,36 @@ fn listing_row(listing: &Listing) -> Vec<String> {
     ];
     row.extend(times.map(|time| time.map_or(String::new(), microseconds)));
     row.push(ratio(times[0], times[1]));
+    row
+}
+
+pub fn viewings(viewings: &[Viewing], agreement: [usize; 2]) {
+    println!("### Views\n\n{VIEWING}");
+    let head = words([
+        "outline",
+        "records",
+        "house: plates",
+        "plain viewer",
+        "times",
+        "buyer: plates",
+        "plain viewer",
+        "times",
+        "check",
+    ]);
+    let rows: Vec<_> = viewings.iter().map(viewing_row).collect();
+    print_table(&head, &rows);
+    print_agreement("plain viewer", agreement);
+}
+
+fn viewing_row(viewing: &Viewing) -> Vec<String> {
+    let in_microseconds = |time: Option<f64>| time.map_or(String::new(), microseconds);
+    let mut row = vec![viewing.name.clone(), viewing.records.to_string()];
+    for [plates, plain] in &viewing.times {
+        let times = [plates.median(), plain.median()];
+        row.extend(times.map(in_microseconds));
+        row.push(ratio(times[0], times[1]));
+    }
+    row.push(in_microseconds(viewing.check.median()));
     row
 }
 

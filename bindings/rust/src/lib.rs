@@ -14,8 +14,10 @@
 //! [`Tree::locked_taxon`]. [`choose`], also a method of the outline, gives a [`Choice`] for an
 //! outline, a page count and a [`Way`]. [`Outline::sheet`] lists the taxa of a choice, or of any
 //! other set, with what each adds in quarters and in diversity. [`Outline::to_newick`] writes an
-//! outline as text again, to return a tree to its author. What is wrong with a text, an outline, a
-//! page count or marks is told as a [`Refusal`].
+//! outline as text again, to return a tree to its author. [`Outline::for_buyer`] gives what a
+//! buyer's editor may see, without prices and locks; [`view_buyer`] and [`view_house`] write what a
+//! buyer's and a house reader get to memory that the caller lends. What is wrong with a text, an
+//! outline, a page count or marks is told as a [`Refusal`].
 //!
 //! ```
 //! use plates::{Outline, Tree, Way};
@@ -60,6 +62,7 @@ mod refusal;
 mod sheet;
 pub mod sys;
 mod tree;
+mod view;
 
 pub use choice::{choose, choose_in, Choice, Column, Way, Work, MOST_COUNT};
 pub use newick::{Newick, MOST_TEXT_LEN};
@@ -67,6 +70,7 @@ pub use outline::{Outline, Record, MOST_PLATE, MOST_RECORDS, MOST_TAXA, RECORD_B
 pub use refusal::Refusal;
 pub use sheet::{Row, Sheet};
 pub use tree::{Tree, TreeError};
+pub use view::{view_buyer, view_house};
 
 /// Runs the example of the README.
 #[cfg(doctest)]

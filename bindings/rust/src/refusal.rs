@@ -14,8 +14,8 @@ use std::fmt;
 ///
 /// Through the safe interface only some of them arise: the bytes of an [`Outline`](crate::Outline)
 /// are refused with numbers 2, 3 and 5 to 8, a text with 3, 5, 7, 8, 10 and 11, choosing with
-/// numbers 4 and 12, writing with 13, listing a sheet with 14. Numbers 1 and 9 are for those who
-/// call [`sys`](crate::sys).
+/// numbers 4 and 12, writing with 13, listing a sheet with 14. Number 9 is for those who lend the
+/// memory of a view, or call [`sys`](crate::sys), and number 1 for the latter only.
 ///
 /// ```
 /// use plates::{Outline, Refusal};
@@ -60,7 +60,7 @@ pub enum Refusal {
         record: u32,
     },
     /// 9: marks, curve or work is too short, or the outline to read a text to, or the text or pairs
-    /// to write to, or the sheet.
+    /// to write to, or the sheet, or the view.
     BufferTooShort,
     /// 10: the text is no tree in the form that
     /// [`Outline::from_newick`](crate::Outline::from_newick) reads, or has more than 16,384 bytes.
@@ -197,7 +197,7 @@ impl fmt::Display for Refusal {
             Refusal::TooManyTaxa => "the outline has more than 64 taxa",
             Refusal::DuplicatePlate { .. } => "an earlier taxon has the same plate",
             Refusal::BufferTooShort => {
-                "marks, curve, work, outline, text, pairs or sheet is too short"
+                "marks, curve, work, outline, text, pairs, sheet or view is too short"
             }
             Refusal::BadText => "the text is no tree in Newick form, or has more than 16384 bytes",
             Refusal::BadPairs => {

@@ -6,9 +6,9 @@
 //! them, and what is written overlaps nothing else. Nothing else is asked of the caller, whatever
 //! the outline, the text or the marks hold. A refusal leaves the lent buffers (`marks`, `curve` and
 //! `work` of `plates_choose`, the `outline` of `plates_read`, the `text` and `pairs` of
-//! `plates_write`, and the `sheet` of `plates_sheet`) as they were; `answer` and `place` carry the
-//! numbers given and are written in any case. Every number but 0 is a refusal, and later versions
-//! add some.
+//! `plates_write`, the `sheet` of `plates_sheet`, and the `view` of `plates_view_house` and
+//! `plates_view_buyer`) as they were; `answer` and `place` carry the numbers given and are written
+//! in any case. Every number but 0 is a refusal, and later versions add some.
 //!
 //! ```
 //! use plates::sys;
@@ -142,6 +142,37 @@ extern "C" {
         marks_len: usize,
         sheet: *mut u32,
         sheet_len: usize,
+        answer: *mut u32,
+    ) -> u32;
+
+    /// What a house reader gets: gives 0 or the refusal's number, and in any case writes both
+    /// numbers of `answer` (number, place). Unless it refuses, it also writes the outline's bytes
+    /// to the beginning of `view`, which needs as many.
+    ///
+    /// # Safety
+    ///
+    /// `outline` can be read for `outline_len` bytes. `view` and `answer` can be written for
+    /// `view_len` bytes and 2 numbers. None of the pointers is null, `answer` is aligned, and no two
+    /// of the three overlap.
+    pub fn plates_view_house(
+        outline: *const u8,
+        outline_len: usize,
+        view: *mut u8,
+        view_len: usize,
+        answer: *mut u32,
+    ) -> u32;
+
+    /// What a buyer's reader gets: as [`plates_view_house`], but every price that it writes is 0,
+    /// and so is bit 31 of every plate field.
+    ///
+    /// # Safety
+    ///
+    /// As [`plates_view_house`].
+    pub fn plates_view_buyer(
+        outline: *const u8,
+        outline_len: usize,
+        view: *mut u8,
+        view_len: usize,
         answer: *mut u32,
     ) -> u32;
 }

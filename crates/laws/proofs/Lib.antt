@@ -1,4 +1,5 @@
 -- Laws of the definitions, for the crates above.
+pub mod Accepted
 pub mod Best
 pub mod ByTree
 pub mod Chains

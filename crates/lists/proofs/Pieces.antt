@@ -1,12 +1,19 @@
--- A buffer that is written over at a place, piece by piece.
-use Prim.Native.Nat.{ℕ, _+_, _≤_, _<_}
+-- A list at a place: two numbers that stand there, and a buffer that is written over there, piece by piece.
+use Prim.Native.Nat.{ℕ, suc, _+_, _≤_, _<_}
 use mathlib.Core.Path.{_≡_, sym, ap, _∙_}
 use mathlib.Core.List.{List, [], _∷_, _++_, append-assoc}
 use native.Mathlib.Numerals.{add-one}
 use native.Mathlib.Omega.{arith}
-use lib.ListN.{length, take, drop, set, length-append, length-drop, take-append-drop}
-use lib.Seq.{set-split, take-at, drop-at, take-append-le, take-take, drop-drop, length-take-le}
+use lib.ListN.{length, getD, take, drop, set, length-append, length-drop, take-append-drop}
+use lib.Seq.{set-split, drop-cons, take-at, drop-at, take-append-le, take-take, drop-drop, length-take-le}
 use Rattle.lists.specs.Lists.{over, overAt}
+
+-- the two numbers at a place, and what follows them
+pub two-at : (xs : List ℕ) (i : ℕ) → i + 1 < length xs → drop i xs ≡ getD xs i 0 ∷ getD xs (i + 1) 0 ∷ drop (i + 2) xs
+two-at xs i h =
+    let e : suc i ≡ i + 1 = sym (add-one i) in
+    let f : suc (i + 1) ≡ i + 2 = omega arith in
+    drop-cons xs i 0 (omega arith) ∙ rw (e, drop-cons xs (i + 1) 0 h, f)
 
 -- one number
 pub over-one : (at b : ℕ) (buffer : List ℕ) → at < length buffer → set buffer at b ≡ overAt at (b ∷ []) buffer

@@ -6,7 +6,6 @@ pub mod Canonical
 pub mod Cursors
 pub mod Demands
 pub mod Endings
-pub mod Fields
 pub mod Grown
 pub mod Lengths
 pub mod Meeting
@@ -17,7 +16,6 @@ pub mod Parts
 pub mod Ranges
 pub mod Plain
 pub mod Priced
-pub mod Records
 pub mod Regrown
 pub mod RoundTrip
 pub mod Rows

@@ -15,7 +15,7 @@ use Rattle.newick.specs.Grammar.{Kind, part, chain, Tree}
 use Rattle.newick.specs.Layout.{count, rows, layout}
 use Rattle.newick.specs.Trees.{treeOf}
 use Rattle.newick.proofs.Plain.{Plain, heading-free, field-plate}
-use Rattle.newick.proofs.Records.{record-split}
+use Rattle.records.proofs.Records.{record-split}
 use Rattle.newick.proofs.Traced.{Traced, taxon-at, group-at, last-at, more-at, tree-traced, traced-here, traced-count}
 
 -- records numbered as they come, from k on

@@ -1,18 +1,17 @@
 -- Pairs of numbers gone through one by one, by the code and for the row that judges them.
-use Prim.Native.Nat.{ℕ, suc, _+_, _%_, _≤_, _<_}
+use Prim.Native.Nat.{ℕ, _+_, _%_, _≤_, _<_}
 use mathlib.Core.Path.{_≡_, refl, sym, ap, subst, fun-ext, _∙_}
 use mathlib.Core.Logic.{inl, inr, Iff·trans}
 use mathlib.Core.Bool.{Bool, true, false, _||_, _&&_, not, or-true, false≢true}
 use mathlib.Core.List.{List, [], _∷_}
-use native.Mathlib.Numerals.{add-one}
 use native.Mathlib.Omega.{arith}
 use lib.Dec.{eqb}
 use lib.ListN.{length, getD, drop, length-drop}
-use lib.Seq.{drop-cons}
 use mir.Val.{boolByte}
 use borrow.Author.Tests.{eqb-true, eqb-false, eq-eqb, ne-eqb}
 use Rattle.lists.specs.Lists.{pick, one, from, anywhere, lowest}
 use Rattle.lists.proofs.Bools.{byte-one, one-le, eqb-comm}
+use Rattle.lists.proofs.Pieces.{two-at}
 use Rattle.lists.proofs.Walk.{Seeking, seeking-finds, seeking-ends, anywhere-lowest}
 use Rattle.refusals.proofs.Tests.{Decides, decides-equal, decides-not, decides-either}
 use Rattle.outline.specs.Outline.{size, records, plate, isTaxon}
@@ -20,13 +19,6 @@ use Rattle.outline.specs.Refusals.{hasPlate}
 use Rattle.newick.specs.Pairs.{priceIn, pairsOf, paired, badPairs}
 use Rattle.newick.specs.Inner.{platesIn, platesOf, unpaired, unmatched}
 use Rattle.newick.specs.Demands.{In, here, there, Pair, first-pair, later-pair, BadPairs}
-
--- the pair at a place
-pub pair-at : (pairs : List ℕ) (i : ℕ) → i + 1 < length pairs → drop i pairs ≡ getD pairs i 0 ∷ getD pairs (i + 1) 0 ∷ drop (i + 2) pairs
-pair-at pairs i h =
-    let e : suc i ≡ i + 1 = sym (add-one i) in
-    let f : suc (i + 1) ≡ i + 2 = omega arith in
-    drop-cons pairs i 0 (omega arith) ∙ rw (e, drop-cons pairs (i + 1) 0 h, f)
 
 -- a function of pairs that is the same without those before place i
 pub record Passing {A : Type 0} (f : List ℕ → A) (pairs : List ℕ) (i : ℕ) : Type 0 where
@@ -38,7 +30,7 @@ passing-starts f pairs = record { high = omega arith; whole = refl }
 
 module _ {A : Type 0} {f : List ℕ → A} {pairs : List ℕ} {i : ℕ} (k : Passing f pairs i) where
   passing-here : {a : A} → i + 1 < length pairs → f (getD pairs i 0 ∷ getD pairs (i + 1) 0 ∷ drop (i + 2) pairs) ≡ a → f pairs ≡ a
-  passing-here h e = k .whole ∙ ap f (pair-at pairs i h) ∙ e
+  passing-here h e = k .whole ∙ ap f (two-at pairs i h) ∙ e
 
   passing-goes : i + 1 < length pairs → f (getD pairs i 0 ∷ getD pairs (i + 1) 0 ∷ drop (i + 2) pairs) ≡ f (drop (i + 2) pairs)
       → Passing f pairs (i + 2)
@@ -93,7 +85,7 @@ module _ {pairs : List ℕ} {p sum i : ℕ} (k : Counted pairs p sum i) where
   pub counted-goes : i + 1 < length pairs → Counted pairs p (sum + boolByte (eqb (getD pairs i 0) p)) (i + 2)
   counted-goes h =
       let step : pairsOf (drop i pairs) p ≡ one (eqb (getD pairs i 0) p) + pairsOf (drop (i + 2) pairs) p =
-      unfold pairsOf in rw (pair-at pairs i h) in
+      unfold pairsOf in rw (two-at pairs i h) in
       let same = byte-one (eqb (getD pairs i 0) p) in
       record { high = omega arith; small = omega (arith, counted-most); whole = omega (arith, k .whole) }
 

@@ -15,7 +15,7 @@ use Rattle.newick.specs.Inner.{InRange}
 use Rattle.newick.specs.Grammar.{part}
 use Rattle.newick.specs.Trees.{treeOf}
 use Rattle.newick.specs.WriteAnswer.{unwritable}
-use Rattle.newick.proofs.Records.{long-small}
+use Rattle.records.proofs.Records.{long-small}
 use Rattle.newick.proofs.Traced.{tree-traced, traced-range}
 
 -- accepted, and no row 13

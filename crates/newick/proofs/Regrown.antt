@@ -14,8 +14,8 @@ use Rattle.newick.specs.Grammar.{Kind, part, chain, Tree, taxon, group}
 use Rattle.newick.specs.Layout.{count, plates, rows, layout}
 use Rattle.newick.specs.Inner.{platesOf, InRange, taxon-in, group-in, last-in, more-in}
 use Rattle.newick.specs.WriteAnswer.{unwritable}
-use Rattle.newick.proofs.Records.{after-list, fields-back}
-use Rattle.newick.proofs.Rows.{count-some, record-length, rows-length}
+use Rattle.records.proofs.Records.{record-length, after-list, fields-back}
+use Rattle.newick.proofs.Rows.{count-some, rows-length}
 use Rattle.newick.proofs.Traced.{Traced, taxon-at, group-at, last-at, more-at, traced-plates}
 
 -- ---- no row 13

@@ -1,23 +1,19 @@
 -- The records of a tree, in a draft.
 use Prim.Native.Nat.{ℕ, _+_, _*_, _≤_}
-use mathlib.Core.Path.{_≡_, refl, sym, ap, _∙_}
+use mathlib.Core.Path.{_≡_, sym, ap, _∙_}
 use mathlib.Core.List.{List, _++_, append-nil}
 use native.Mathlib.Omega.{arith}
 use lib.ListN.{length, length-append}
 use borrow.Author.Tests.{ne-eqb}
 use Rattle.lists.specs.Lists.{overAt}
 use Rattle.lists.proofs.Pieces.{over-both, over-before}
-use Rattle.outline.specs.Outline.{bytes, recordBytes}
+use Rattle.outline.specs.Outline.{recordBytes}
 use Rattle.outline.specs.Refusals.{mostRecords}
+use Rattle.records.proofs.Records.{record-length}
 use Rattle.newick.specs.Grammar.{Kind, part, chain, Tree, taxon, group, last, more}
 use Rattle.newick.specs.Layout.{count, rows}
 use Rattle.newick.specs.Pairs.{priceIn}
 use Rattle.newick.specs.Inner.{draftSize, priceFor, drafted, firstOf, branchOf, plateOf, below}
-
--- a record has sixteen bytes
-pub record-length : (next first branch price plate : ℕ) → length (recordBytes next first branch price plate) ≡ 16
-unfolding recordBytes bytes
-record-length next first branch price plate = refl
 
 -- a tree has a record
 pub count-some : {κ : Kind} (t : Tree κ) → 1 ≤ count t

@@ -5,7 +5,7 @@ ghost use Rattle.newick.specs.Inner.{NumberRead, LengthRead, Finished, R
 use super::cursor::Cursor;
 use super::cursor::begun;
 use super::cursor::next;
-use super::record::put_record;
+use super::record::draft_record;
 use super::token::Token;
 use outline::limits::MOST_RECORDS;
 
@@ -131,7 +131,7 @@ fn read_list(text: &[u8], pairs: &[u32], cursor: Cursor, draft: &mut [u8]) -> Me
             let past = step.cursor;
             match token {
                 Token::Comma => {
-                    put_record(
+                    draft_record(
                         draft,
                         pairs,
                         cursor.records,
@@ -143,7 +143,7 @@ fn read_list(text: &[u8], pairs: &[u32], cursor: Cursor, draft: &mut [u8]) -> Me
                     read_list(text, pairs, past, draft)
                 }
                 Token::Close => {
-                    put_record(draft, pairs, cursor.records, 0, first, length, plate);
+                    draft_record(draft, pairs, cursor.records, 0, first, length, plate);
                     Members::Read(past)
                 }
                 _ => Members::Bad,

@@ -11,7 +11,7 @@ use super::pairs::bad_pairs;
 use super::part::Part;
 use super::part::read_part;
 use super::record::DRAFT;
-use super::record::put_record;
+use super::record::draft_record;
 use super::scan::ends_at;
 use super::scan::is_tree;
 use outline::checker::check_records;
@@ -50,7 +50,7 @@ fn read_tree(text: &[u8], pairs: &[u32], draft: &mut [u8]) -> Draft
             if !ends_at(text, cursor) {
                 return Draft::Bad;
             }
-            put_record(draft, pairs, 0, 0, first, length, plate);
+            draft_record(draft, pairs, 0, 0, first, length, plate);
             Draft::Read(cursor.records)
         }
     }

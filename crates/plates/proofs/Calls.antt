@@ -1,5 +1,5 @@
--- What is promised of calls one after the other, `plates_write` and `plates_read`, `plates_choose` and `plates_sheet`: what is promised
--- of the functions behind them, of the numbers that stand in `answer`.
+-- What is promised of several calls, `plates_write` and `plates_read`, `plates_choose` and `plates_sheet`, `plates_view_buyer` twice: what
+-- is promised of the functions behind them, of the numbers that stand in `answer`.
 use Prim.Native.Nat.{ℕ, _≤_}
 use mathlib.Core.Path.{_≡_, sym, _∙_}
 use mathlib.Core.List.{List}
@@ -13,7 +13,11 @@ use Rattle.choice.specs.Answer as choose
 use Rattle.sheet.specs.Answer as sheet
 use Rattle.sheet.specs.Demands as sheets
 use Rattle.sheet.proofs.Demands.{choice-listed}
-use Rattle.plates.specs.Interface.{chosenIn, Chosen, listedIn, SheetListed, readIn, TextRead, writtenIn, TextWritten}
+use Rattle.view.specs.Answer as view
+use Rattle.view.specs.Demands.{BuyersCalls, Suffices, SameBytes}
+use Rattle.view.specs.View.{buyerView}
+use Rattle.view.proofs.Demands.{buyers-alike, buyers-alike-whole}
+use Rattle.plates.specs.Interface.{chosenIn, Chosen, listedIn, SheetListed, readIn, TextRead, writtenIn, TextWritten, shownIn, Viewed}
 
 -- where the records stand in text order, reading what was written gives back the same bytes
 pub written-read : {c : write.Call} {d : read.Call} {n m : ℕ} {answer text pairs answer′ outline : List ℕ}
@@ -38,3 +42,13 @@ pub chosen-listed : {c : choose.Call} {d : sheet.Call} {n m : ℕ} {answer marks
     → Chosen c n answer marks curve work → n ≡ 0 → sheets.Handed c (chosenIn answer) marks d → SheetListed d m answer′ lent
     → listedIn answer′ ≡ sheet.listed (chosenIn answer .taxa) (chosenIn answer .cost) (chosenIn answer .diversity)
 chosen-listed {c} {d} x z h y = choice-listed c (x .answered) (sym (x .number-given) ∙ z) d h (y .answered)
+
+-- two buyers' readers of accepted outlines that agree except in prices and locks get identical bytes: from any two views that suffice, and
+-- from views alike the whole
+module _ {c d : view.Call} {n m : ℕ} {answer answer′ shown shown′ : List ℕ} (both : BuyersCalls c d) (x : Viewed buyerView c n answer shown)
+    (y : Viewed buyerView d m answer′ shown′) where
+  pub buyers-shown : Suffices c → Suffices d → SameBytes c d (shownIn answer) (shownIn answer′) shown shown′
+  buyers-shown = buyers-alike both (x .answered) (y .answered)
+
+  pub buyers-shown-whole : c .view ≡ d .view → (shownIn answer ≡ shownIn answer′) × (shown ≡ shown′)
+  buyers-shown-whole = buyers-alike-whole both (x .answered) (y .answered)

@@ -6,7 +6,9 @@ use lib.ListN.{length, getD}
 use Rattle.choice.specs.Answer as choose
 use Rattle.newick.specs.Answer as read
 use Rattle.newick.specs.WriteAnswer as write
+use Rattle.refusals.specs.Refusals.{Told, tells}
 use Rattle.sheet.specs.Answer as sheet
+use Rattle.view.specs.Answer as view
 
 -- what a function gives with its `answer`: that has so many numbers and no more, the first of them is given, and they answer the
 -- call
@@ -60,3 +62,11 @@ writtenIn answer =
 -- a call is answered by them as `write` answers it
 abbrev pub TextWritten : write.Call → ℕ → List ℕ → List ℕ → List ℕ → Type 0
 TextWritten c number answer text pairs = Given 4 writtenIn (λ r. write.Answered c r text pairs) number answer
+
+-- the two numbers of a view
+abbrev pub shownIn : List ℕ → Told
+shownIn answer = tells (getD answer 0 0) (getD answer 1 0)
+
+-- a call is answered by them as the view for a reader that gets what is shown answers it
+abbrev pub Viewed : (List ℕ → List ℕ) → view.Call → ℕ → List ℕ → List ℕ → Type 0
+Viewed shown c number answer lent = Given 2 shownIn (λ t. view.Answered shown c t lent) number answer

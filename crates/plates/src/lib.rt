@@ -1,14 +1,17 @@
-// The C interface: checking an outline, finding a plate's record, choosing, listing a marked set, reading a tree from text and
-// writing it as text, over memory that the caller lends.
+// The C interface: checking an outline, finding a plate's record, choosing, listing a marked set, reading a tree from text, writing it
+// as text, and showing an outline to a house reader and to a buyer's, over memory that the caller lends.
 // include/plates.h declares these functions.
 ghost use mathlib.Core.Path.{_≡_};
-ghost use Rattle.refusals.specs.Refusals.{tells};
-ghost use Rattle.outline.specs.Refusals.{checked, foundAt};
+ghost use Prim.Native.Nat.{_≤_};
+ghost use Rattle.refusals.specs.Refusals.{tells, told};
+ghost use Rattle.outline.specs.Refusals.{mostRecords, checked, foundAt};
 ghost use Rattle.newick.specs.Answer.{call as reading};
 ghost use Rattle.newick.specs.WriteAnswer.{call as writing};
 ghost use Rattle.choice.specs.Answer.{call};
 ghost use Rattle.sheet.specs.Answer.{call as listing};
-ghost use Rattle.plates.specs.Interface.{Chosen, SheetListed, TextRead, TextWritten};
+ghost use Rattle.view.specs.Answer.{call as viewing};
+ghost use Rattle.view.specs.View.{houseView, buyerView};
+ghost use Rattle.plates.specs.Interface.{Given, Chosen, SheetListed, TextRead, TextWritten, shownIn, Viewed};
 use choice::Answer;
 use choice::choose;
 use newick::read;
@@ -22,6 +25,8 @@ use refusals::verdict::number_of;
 use refusals::verdict::place_of;
 use sheet::Answer as Listing;
 use sheet::sheet as list;
+use view::view_buyer;
+use view::view_house;
 
 // 0, or the number of the first row of the table that refuses an outline; writes its place.
 #[no_mangle]
@@ -161,4 +166,40 @@ pub extern "C" fn plates_write(
             number
         }
     }
+}
+
+// Writes the number and the place of a verdict, and gives the number.
+fn tell(verdict: Verdict, answer: &mut [u32; 2]) -> u32
+    requires { ⌜ told verdict .place ≤ mostRecords ⌝ }
+    ensures { λ n. ⌜ Given 2 shownIn (λ t. t ≡ told verdict) n (now (answer .exit)) ⌝ }
+{
+    match verdict {
+        Verdict::Accepted => {
+            *answer = [0, 0];
+            0
+        }
+        Verdict::Refused(refusal) => {
+            let number = number_of(refusal);
+            *answer = [number, place_of(refusal) as u32];
+            number
+        }
+    }
+}
+
+// Shows an outline to a house reader, and writes number and place; the number is given as well.
+#[no_mangle]
+pub extern "C" fn plates_view_house(outline: &[u8], view: &mut [u8], answer: &mut [u32; 2]) -> u32
+    ensures { λ n. ⌜ Viewed houseView (viewing (now (outline .entry)) (now (view .entry))) n (now (answer .exit)) (now (view .exit)) ⌝ }
+{
+    let verdict = view_house(outline, view);
+    tell(verdict, answer)
+}
+
+// Shows an outline to a buyer's reader, without prices and locks, and writes number and place; the number is given as well.
+#[no_mangle]
+pub extern "C" fn plates_view_buyer(outline: &[u8], view: &mut [u8], answer: &mut [u32; 2]) -> u32
+    ensures { λ n. ⌜ Viewed buyerView (viewing (now (outline .entry)) (now (view .entry))) n (now (answer .exit)) (now (view .exit)) ⌝ }
+{
+    let verdict = view_buyer(outline, view);
+    tell(verdict, answer)
 }

@@ -6,8 +6,9 @@ use native.Mathlib.Omega.{arith}
 use lib.Dec.{eqb}
 use borrow.Author.Tests.{ne-eqb, eqb-true, eqb-false}
 use Rattle.lists.specs.Lists.{pick, from, lowest}
-use Rattle.refusals.specs.Refusals.{Told, tells, passed, refusal, _▸_, row, rowAt}
+use Rattle.refusals.specs.Refusals.{Told, tells, passed, refusal, told, _▸_, row, rowAt}
 use Rattle.refusals.specs.declared.verdict.Refusal.{Refusal}
+use Rattle.refusals.specs.declared.verdict.Verdict.{Verdict}
 
 -- every refusal has a number of the table
 pub refusal-numbered : (e : Refusal) → 1 ≤ refusal e .number
@@ -66,6 +67,17 @@ refusal-at (Refusal.BadMarks r) = refl
 -- the number and the place determine the refusal
 pub refusal-determined : (d e : Refusal) → refusal d ≡ refusal e → d ≡ e
 refusal-determined d e h = sym (refusal-at d) ∙ ap refusalAt h ∙ refusal-at e
+
+-- and the verdict
+pub verdict-determined : (u v : Verdict) → told u ≡ told v → u ≡ v
+verdict-determined Verdict.Accepted Verdict.Accepted h = refl
+verdict-determined Verdict.Accepted (Verdict.Refused e) h =
+    let z : 0 ≡ refusal e .number = ap (λ (t : Told). t .number) h in
+    absurd (omega (arith, refusal-numbered e))
+verdict-determined (Verdict.Refused d) Verdict.Accepted h =
+    let z : refusal d .number ≡ 0 = ap (λ (t : Told). t .number) h in
+    absurd (omega (arith, refusal-numbered d))
+verdict-determined (Verdict.Refused d) (Verdict.Refused e) h = ap Verdict.Refused (refusal-determined d e h)
 
 -- where rows pass, each of them passes
 pub both-pass : (a b : Told) → (a ▸ b) .number ≡ 0 → (a .number ≡ 0) × (b .number ≡ 0)

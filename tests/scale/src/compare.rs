@@ -3,11 +3,14 @@
 use crate::expect::Expected;
 use crate::frame::difference;
 use crate::library::{
-    CheckObserved, ChooseObserved, FindObserved, ReadObserved, SheetObserved, WriteObserved,
+    CheckObserved, ChooseObserved, FindObserved, ReadObserved, SheetObserved, ViewObserved,
+    WriteObserved,
 };
+use crate::outline::{self, Record, LOCK};
 use crate::reading::ReadExpected;
 use crate::rules::Refusal;
 use crate::sheet::SheetExpected;
+use crate::view::ViewExpected;
 use crate::writing::WriteExpected;
 
 /// The differences found, and how many numbers and bytes were compared.
@@ -146,6 +149,63 @@ pub fn sheet(expected: &SheetExpected, observed: &SheetObserved) -> Comparison {
     }
 }
 
+pub fn view(expected: &ViewExpected, observed: &ViewObserved) -> Comparison {
+    let (before, after) = (&observed.before, &observed.after);
+    let differences = [
+        returned(expected.answer[0], observed.returned),
+        difference("answer", &before.answer, &after.answer, &expected.answer),
+        difference("outline", &before.outline, &after.outline, &[]),
+        difference("view", &before.view, &after.view, &expected.view),
+    ];
+    let values = 1 + after.answer.cells.len() + after.outline.cells.len() + after.view.cells.len();
+    Comparison {
+        differences: differences.into_iter().flatten().collect(),
+        values,
+    }
+}
+
+/// What of a buyer's view, read record by record, is not to be seen or is not the outline's.
+pub fn seen_by_buyer(records: &[Record], view: &[u8]) -> Vec<String> {
+    let seen = outline::records(view);
+    let mut differences = Vec::new();
+    if seen.len() != records.len() {
+        differences.push(format!(
+            "view: {} records for {}",
+            seen.len(),
+            records.len()
+        ));
+    }
+    for (number, (seen, record)) in seen.iter().zip(records).enumerate() {
+        let same = (seen.next, seen.first) == (record.next, record.first)
+            && seen.length == record.length
+            && seen.plate_number() == record.plate_number();
+        let wrong = [
+            (!same, "has another link, length or plate"),
+            (seen.price != 0, "has a price"),
+            (seen.plate & LOCK != 0, "has bit 31"),
+        ];
+        let wrong = wrong.into_iter().filter(|(holds, _)| *holds);
+        differences.extend(wrong.map(|(_, what)| format!("view: record {} {what}", number + 1)));
+    }
+    differences
+}
+
+/// Where the house's views of two outlines of one size differ otherwise than the outlines do.
+pub fn shown_to_house(outlines: [&[u8]; 2], views: [&[u8]; 2]) -> Option<String> {
+    let [outlines, views] = [outlines, views].map(differing);
+    (outlines != views)
+        .then(|| format!("house views differ at {views:?}, the outlines at {outlines:?}"))
+}
+
+/// The places at which the bytes differ.
+pub fn differing([one, other]: [&[u8]; 2]) -> Vec<usize> {
+    let pairs = one.iter().zip(other).enumerate();
+    pairs
+        .filter(|(_, (one, other))| one != other)
+        .map(|(at, _)| at)
+        .collect()
+}
+
 #[cfg(test)]
 mod tests {
     use super::*;
@@ -153,13 +213,16 @@ mod tests {
     use crate::cases;
     use crate::expect;
     use crate::frame::Frame;
-    use crate::library::{Buffers, ReadBuffers, SheetBuffers, WriteBuffers};
+    use crate::heading_cases::tree_a_with;
+    use crate::library::{Buffers, ReadBuffers, SheetBuffers, ViewBuffers, WriteBuffers};
     use crate::lock_cases::locking;
-    use crate::outline::{bytes, Record};
+    use crate::outline::bytes;
     use crate::random::Random;
     use crate::reading::{self, ReadCall};
     use crate::sheet::{self, SheetCall};
+    use crate::view::{self, Reader, ViewCall, READERS};
     use crate::writing::{self, WriteCall};
+    use crate::wrong_views;
 
     /// What a right library does.
     fn right(expected: &Expected, call: &Call) -> ChooseObserved {
@@ -538,5 +601,71 @@ mod tests {
         observed.after.sheet.cells[start..start + 6].rotate_left(3);
         let found = sheet(&expected, &observed).differences;
         assert_eq!(found, ["sheet[0] (length 10): expected 11, got 13"]);
+    }
+
+    /// Tree A with headings and locks, shown by a right program in a view of this length.
+    fn showing(reader: Reader, view: usize) -> (ViewExpected, ViewObserved) {
+        let call = ViewCall {
+            outline: bytes(&locking(&[3, 5], tree_a_with(1, 2))),
+            reader,
+            view,
+        };
+        let before = ViewBuffers::random(&call, &mut Random::new(7));
+        (view::expected(&call), wrong_views::right(reader, before))
+    }
+
+    #[test]
+    fn wrong_views_are_noticed() {
+        for (len, number) in [(90, 0), (80, 0), (79, 9), (0, 9)] {
+            for pair in READERS.map(|reader| showing(reader, len)) {
+                assert_eq!(pair.0.answer, [number, 0]);
+                assert_eq!(view(&pair.0, &pair.1).differences, [""; 0]);
+                is_the_one_difference(view, &pair, |o| &mut o.after.answer, |v| v ^ (1 << 31));
+                is_the_one_difference(view, &pair, |o| &mut o.after.outline, |v| v ^ 1);
+                is_the_one_difference(view, &pair, |o| &mut o.after.view, |v| v ^ 128);
+                let (expected, mut altered) = pair;
+                altered.returned ^= 1;
+                assert_eq!(view(&expected, &altered).differences.len(), 1);
+                altered.after.view = altered.before.view.clone();
+                let untouched = view(&expected, &altered).differences.len();
+                assert_eq!(untouched, if number == 0 { 2 } else { 1 });
+            }
+        }
+    }
+
+    #[test]
+    fn what_a_buyer_is_not_to_see_is_noticed_at_its_record() {
+        let records = locking(&[3, 5], tree_a_with(1, 2));
+        let (right, _) = showing(Reader::Buyer, 80);
+        assert_eq!(seen_by_buyer(&records, &right.view), [""; 0]);
+        for (byte, record, what) in [
+            (0, 1, "has another link, length or plate"),
+            (18, 2, "has another link, length or plate"),
+            (36, 3, "has another link, length or plate"),
+            (62, 4, "has another link, length or plate"),
+            (8, 1, "has a price"),
+            (25, 2, "has a price"),
+            (74, 5, "has a price"),
+            (31, 2, "has bit 31"),
+            (79, 5, "has bit 31"),
+        ] {
+            let mut view = right.view.clone();
+            view[byte] |= 128;
+            let text = format!("view: record {record} {what}");
+            assert_eq!(seen_by_buyer(&records, &view), [text]);
+        }
+        assert_eq!(seen_by_buyer(&records, &bytes(&records)).len(), 7);
+        assert_eq!(seen_by_buyer(&records, &right.view[..64]).len(), 1);
+    }
+
+    #[test]
+    fn house_views_that_hide_or_add_a_difference_are_noticed() {
+        let outlines: [&[u8]; 2] = [&[1, 2, 3, 4], &[1, 7, 3, 8]];
+        assert_eq!(differing(outlines), [1, 3]);
+        assert_eq!(shown_to_house(outlines, outlines), None);
+        let wrong: [&[u8]; 4] = [&[1, 2, 3, 8], &[1, 7, 3, 4], &[0, 7, 3, 8], &[1, 2, 3, 4]];
+        for other in wrong {
+            assert_ne!(shown_to_house(outlines, [outlines[0], other]), None);
+        }
     }
 }

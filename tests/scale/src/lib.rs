@@ -32,6 +32,12 @@ pub mod table;
 pub mod tally;
 pub mod text_cases;
 mod text_runs;
+pub mod view;
+pub mod view_cases;
+pub mod view_pairs;
+mod view_runs;
 pub mod write_cases;
 pub mod write_runs;
 pub mod writing;
+#[cfg(test)]
+mod wrong_views;

@@ -5,6 +5,7 @@ use crate::frame::Frame;
 use crate::random::Random;
 use crate::reading::ReadCall;
 use crate::sheet::SheetCall;
+use crate::view::{Reader, ViewCall};
 use crate::writing::WriteCall;
 
 extern "C" {
@@ -49,6 +50,20 @@ extern "C" {
         marks_len: usize,
         sheet: *mut u32,
         sheet_len: usize,
+        answer: *mut u32,
+    ) -> u32;
+    fn plates_view_house(
+        outline: *const u8,
+        outline_len: usize,
+        view: *mut u8,
+        view_len: usize,
+        answer: *mut u32,
+    ) -> u32;
+    fn plates_view_buyer(
+        outline: *const u8,
+        outline_len: usize,
+        view: *mut u8,
+        view_len: usize,
         answer: *mut u32,
     ) -> u32;
 }
@@ -397,6 +412,63 @@ pub fn guarded_sheet(call: &SheetCall, rng: &mut Random) -> SheetObserved {
     }
 }
 
+/// What a showing call is handed, with its guards.
+#[derive(Clone, Debug)]
+pub struct ViewBuffers {
+    pub outline: Frame<u8>,
+    pub view: Frame<u8>,
+    pub answer: Frame<u32>,
+}
+
+impl ViewBuffers {
+    pub fn random(call: &ViewCall, rng: &mut Random) -> Self {
+        ViewBuffers {
+            outline: Frame::holding(&call.outline, rng),
+            view: Frame::random(call.view, rng),
+            answer: Frame::random(2, rng),
+        }
+    }
+}
+
+/// What a showing call returned and did to its buffers.
+#[derive(Clone, Debug)]
+pub struct ViewObserved {
+    pub returned: u32,
+    pub before: ViewBuffers,
+    pub after: ViewBuffers,
+}
+
+/// A program that shows outlines: the library, or in tests a wrong one.
+pub type Viewer<'a> = &'a dyn Fn(Reader, ViewBuffers) -> ViewObserved;
+
+pub fn guarded_view(call: &ViewCall, rng: &mut Random) -> ViewObserved {
+    view(call.reader, ViewBuffers::random(call, rng))
+}
+
+/// The library's function for this reader on buffers as they are.
+pub fn view(reader: Reader, before: ViewBuffers) -> ViewObserved {
+    let mut after = before.clone();
+    let shown = match reader {
+        Reader::House => plates_view_house,
+        Reader::Buyer => plates_view_buyer,
+    };
+    // SAFETY: each frame's buffer has the length given here, and the frames are separate allocations.
+    let returned = unsafe {
+        shown(
+            after.outline.pointer(),
+            after.outline.len,
+            after.view.pointer(),
+            after.view.len,
+            after.answer.pointer(),
+        )
+    };
+    ViewObserved {
+        returned,
+        before,
+        after,
+    }
+}
+
 #[cfg(test)]
 mod tests {
     use super::*;
@@ -462,6 +534,26 @@ mod tests {
             assert_eq!(answer.content(), [0, 0, 2, 3, 65_544]);
             assert_eq!(sheet.content()[..6], [11, 1, 65_539, 13, 2, 5]);
             assert_eq!(sheet.content()[6], observed.before.sheet.content()[6]);
+        }
+    }
+
+    /// Record 3 of tree A has price 3 and is locked here.
+    #[test]
+    fn each_reader_has_a_function() {
+        let mut outline = bytes(&tree_a());
+        outline[47] = 128;
+        for (reader, price, lock) in [(Reader::House, 3, 128), (Reader::Buyer, 0, 0)] {
+            let call = ViewCall {
+                outline: outline.clone(),
+                reader,
+                view: 81,
+            };
+            let observed = guarded_view(&call, &mut Random::new(1));
+            let ViewBuffers { view, answer, .. } = observed.after;
+            assert_eq!(observed.returned, 0);
+            assert_eq!(answer.content(), [0, 0]);
+            assert_eq!((view.content()[40], view.content()[47]), (price, lock));
+            assert_eq!(view.content()[80], observed.before.view.content()[80]);
         }
     }
 }

@@ -54,7 +54,11 @@ impl Runner {
         self.stated_writings()?;
         self.marked_sets(2 * outlines)?;
         self.listed_choices(outlines / 2, outlines / 50)?;
-        self.stated_sheets()
+        self.stated_sheets()?;
+        self.shown_outlines(outlines)?;
+        self.shown_pairs(outlines / 4)?;
+        self.shown_again(outlines / 10)?;
+        self.stated_views()
     }
 
     /// Starts a run with numbers that do not depend on the runs before it.
@@ -100,7 +104,11 @@ impl Runner {
         Ok(())
     }
 
-    fn stated_check(&mut self, outline: &[u8], stated: Option<Refusal>) -> Result<(), Stop> {
+    pub(crate) fn stated_check(
+        &mut self,
+        outline: &[u8],
+        stated: Option<Refusal>,
+    ) -> Result<(), Stop> {
         let observed = library::guarded_check(outline, &mut self.rng);
         let comparison = compare::check(stated, &observed);
         self.report.add(&comparison, 0, || {

@@ -193,6 +193,38 @@ pub fn random_outline_of(taxa: usize, records: usize, rng: &mut Random) -> Vec<R
     tree.any_order(rng)
 }
 
+/// Every outline of so many records, by its links: each record from the second on has one of the links of earlier ones that name
+/// no record yet.
+pub fn every_outline(records: usize) -> Vec<Vec<Record>> {
+    let mut all = vec![vec![Record::default()]];
+    for _ in 1..records {
+        all = all.iter().flat_map(|outline| one_more(outline)).collect();
+    }
+    for outline in &mut all {
+        set_plates(outline, 1..);
+    }
+    all
+}
+
+/// The outline with one record more, in every place that there is for it.
+fn one_more(outline: &[Record]) -> Vec<Vec<Record>> {
+    let number = outline.len() as u16 + 1;
+    let mut all = Vec::new();
+    for (position, record) in outline.iter().enumerate() {
+        let mut longer = [outline, &[Record::default()]].concat();
+        if record.first == 0 {
+            longer[position].first = number;
+            all.push(longer.clone());
+            longer[position].first = 0;
+        }
+        if record.next == 0 && position > 0 {
+            longer[position].next = number;
+            all.push(longer);
+        }
+    }
+    all
+}
+
 /// Sets every length and every taxon's price.
 pub fn fill(
     records: &mut [Record],
@@ -332,6 +364,21 @@ mod tests {
             assert_eq!(records.len(), size);
             assert_eq!(taxa(&records).len(), taxon_count);
             assert_eq!(accepted(&records), size < 128);
+        }
+    }
+
+    #[test]
+    fn every_outline_is_there_once() {
+        for (size, times) in [(1, 1), (2, 1), (3, 2), (4, 6), (5, 24), (6, 120)] {
+            let all = every_outline(size);
+            let different: BTreeSet<Vec<u8>> = all.iter().map(|outline| bytes(outline)).collect();
+            assert_eq!((all.len(), different.len()), (times, times));
+            assert!(all.iter().all(|outline| accepted(outline)));
+        }
+        let rng = &mut Random::new(5);
+        let all = every_outline(6);
+        for _ in 0..200 {
+            assert!(all.contains(&random_outline_of(1 + rng.index(3), 6, rng)));
         }
     }
 

@@ -325,7 +325,7 @@ fn some_call(rng: &mut Random) -> SheetCall {
 }
 
 /// Mostly sound, and at times with headings and locks; else with too many records or taxa, or damaged.
-fn some_outline(rng: &mut Random) -> Vec<u8> {
+pub(crate) fn some_outline(rng: &mut Random) -> Vec<u8> {
     match rng.below(8) {
         0 | 1 => damage::damaged_outline(40, rng).0,
         2 => bytes(&runs::larger_outline(rng).0),

@@ -13,7 +13,7 @@ use crate::report::Stop;
 use crate::runs::Runner;
 use crate::text_cases;
 
-/// The stack that the deepest texts are read and written on, and stated sheets listed.
+/// The stack that the deepest texts are read and written on, stated sheets listed, and stated outlines shown.
 pub(crate) const SMALL_STACK: usize = 256 * 1_024;
 
 /// The refusals that reading can give.

@@ -2,7 +2,8 @@
 //! and the buffers.
 
 use crate::support::{self, bytes, chain, changed, cost, headed_a, locked_a, outline, outlines};
-use crate::support::{pairs, sound, star, star_records, tree_a, INTERLEAVED, LOCK, TREE_A, WAYS};
+use crate::support::{pairs, sound, star, star_records, tree_a, Draw};
+use crate::support::{INTERLEAVED, LOCK, TREE_A, WAYS};
 use plates::{sys, Outline, Record, Refusal, Row, Sheet, Tree, Way};
 use plates::{MOST_COUNT, MOST_PLATE, MOST_RECORDS, MOST_TAXA};
 use std::thread;
@@ -49,42 +50,6 @@ fn expected_rows(outline: &Outline, taxa: &[Record], way: Way) -> Vec<Row> {
         }
     };
     (0..taxa.len()).map(row).collect()
-}
-
-/// Numbers that look random, the same in every run.
-struct Draw(u64);
-
-impl Draw {
-    fn below(&mut self, limit: u32) -> u32 {
-        self.0 = self
-            .0
-            .wrapping_mul(6_364_136_223_846_793_005)
-            .wrapping_add(1_442_695_040_888_963_407);
-        (self.0 >> 33) as u32 % limit
-    }
-
-    /// A tree of so many taxa, with plates from `plate` on: with headings and locks, and with
-    /// lengths and prices of 0 among them.
-    fn tree(&mut self, taxa: u32, plate: u32) -> Tree {
-        let (length, price) = (self.below(6), self.below(4));
-        if taxa == 1 {
-            return match self.below(6) {
-                0 => Tree::locked_taxon(plate, length, price),
-                _ => Tree::taxon(plate, length, price),
-            };
-        }
-        let left = 1 + self.below(taxa);
-        let mut members = vec![self.tree(left, plate)];
-        if left < taxa {
-            members.push(self.tree(taxa - left, plate + left));
-        }
-        Tree::headed_group(length, price, members)
-    }
-
-    fn outline(&mut self, most_taxa: u32) -> Outline {
-        let taxa = 1 + self.below(most_taxa);
-        sound(self.tree(taxa, 1))
-    }
 }
 
 #[test]

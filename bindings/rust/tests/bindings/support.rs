@@ -145,6 +145,42 @@ pub fn outlines() -> [Outline; 9] {
     ]
 }
 
+/// Numbers that look random, the same in every run.
+pub struct Draw(pub u64);
+
+impl Draw {
+    pub fn below(&mut self, limit: u32) -> u32 {
+        self.0 = self
+            .0
+            .wrapping_mul(6_364_136_223_846_793_005)
+            .wrapping_add(1_442_695_040_888_963_407);
+        (self.0 >> 33) as u32 % limit
+    }
+
+    /// A tree of so many taxa, with plates from `plate` on: with headings and locks, and with
+    /// lengths and prices of 0 among them.
+    fn tree(&mut self, taxa: u32, plate: u32) -> Tree {
+        let (length, price) = (self.below(6), self.below(4));
+        if taxa == 1 {
+            return match self.below(6) {
+                0 => Tree::locked_taxon(plate, length, price),
+                _ => Tree::taxon(plate, length, price),
+            };
+        }
+        let left = 1 + self.below(taxa);
+        let mut members = vec![self.tree(left, plate)];
+        if left < taxa {
+            members.push(self.tree(taxa - left, plate + left));
+        }
+        Tree::headed_group(length, price, members)
+    }
+
+    pub fn outline(&mut self, most_taxa: u32) -> Outline {
+        let taxa = 1 + self.below(most_taxa);
+        sound(self.tree(taxa, 1))
+    }
+}
+
 /// How many of the taxa a record is, or has below it.
 fn held(outline: &Outline, taxa: &[Record], record: Record) -> usize {
     let members = successors(outline.record(record.first), |m| outline.record(m.next));

@@ -22,7 +22,7 @@ use Rattle.newick.proofs.part.+read_list+read_part.Lts-read_part as rea
 use Rattle.newick.proofs.cursor.begun.Reads as begun-reads
 use Rattle.newick.proofs.cursor.next.Reads as next-reads
 use Rattle.newick.proofs.part.finish.Reads as finish-reads
-use Rattle.newick.proofs.record.put_record.Reads as put-record-reads
+use Rattle.newick.proofs.record.draft_record.Reads as draft-record-reads
 use Rattle.newick.proofs.part.+read_list+read_part.{statement}
 use Rattle.newick.proofs.part.+read_list+read_part.Tie.{close}
 
@@ -51,8 +51,8 @@ list-calls t = (
   read-part.Post,
   next-reads.Asked,
   next-reads.Learnt,
-  put-record-reads.Asked,
-  put-record-reads.Learnt,
+  draft-record-reads.Asked,
+  draft-record-reads.Learnt,
   read-list-below t,
   read-list.Post,
 )
@@ -196,13 +196,13 @@ module _ (t : ℕ) where
   list-next-requires : read-list-lts.Need-next-requires (list-calls t) (read-list-at t) read-list.Post
   list-next-requires c κs = l-member c .1 .inside
 
-  list-add-put-record : read-list-lts.Need-add-put-record (list-calls t) (read-list-at t) read-list.Post
-  list-add-put-record c =
+  list-add-draft-record : read-list-lts.Need-add-draft-record (list-calls t) (read-list-at t) read-list.Post
+  list-add-draft-record c =
       let o = l-member (c .before .before .before .before .before .before) .1 in
       omega (arith, o .few, own-room o)
 
-  list-put-record-requires : read-list-lts.Need-put-record-requires (list-calls t) (read-list-at t) read-list.Post
-  list-put-record-requires c κs =
+  list-draft-record-requires : read-list-lts.Need-draft-record-requires (list-calls t) (read-list-at t) read-list.Post
+  list-draft-record-requires c κs =
       let k = c .before .before .before .before .before .before in
       (own-room (l-member k .1), l-part k .read-part .kept .1 .1 .1 .0 ∙ l-ready (l-part k) .long)
 
@@ -214,11 +214,11 @@ module _ (t : ℕ) where
       let o = l-member k .1 in
       let e = put .before .before .before .enum-told3 .given .1 in (
         omega (arith, list-falls (l-ready (l-part k)) _ o (n .next .ensures) e, l-start (l-part k) .pre .0),
-        list-enters (l-ready (l-part k)) _ o (n .next .ensures) e (put .put-record .kept .0 ∙ l-part k .read-part .kept .1 .1 .1 .0),
+        list-enters (l-ready (l-part k)) _ o (n .next .ensures) e (put .draft-record .kept .0 ∙ l-part k .read-part .kept .1 .1 .1 .0),
       )
 
-  list-put-record-requires-2 : read-list-lts.Need-put-record-requires-2 (list-calls t) (read-list-at t) read-list.Post
-  list-put-record-requires-2 c κs =
+  list-draft-record-requires-2 : read-list-lts.Need-draft-record-requires-2 (list-calls t) (read-list-at t) read-list.Post
+  list-draft-record-requires-2 c κs =
       let k = c .before .before .before .before .before in
       (own-room (l-member k .1), l-part k .read-part .kept .1 .1 .1 .0 ∙ l-ready (l-part k) .long)
 
@@ -243,7 +243,7 @@ module _ (t : ℕ) where
       let list = c .before .before in
       let put = list .before .before .before .before in
       let k = put .before .before .before .before .before .before .before in
-      list .read-list .kept .1 .1 .1 .0 ∙ put .put-record .kept .0 ∙ l-part k .read-part .kept .1 .1 .1 .0
+      list .read-list .kept .1 .1 .1 .0 ∙ put .draft-record .kept .0 ∙ l-part k .read-part .kept .1 .1 .1 .0
 
   list-returns-3 : read-list-lts.Need-returns-3 (list-calls t) (read-list-at t) read-list.Post
   list-returns-3 c =
@@ -252,19 +252,19 @@ module _ (t : ℕ) where
       let n = put .before .before .before .before .before .before in
       let k = n .before in
       list-goes (l-ready (l-part k)) _ (l-member k .1) (n .next .ensures) (put .before .before .before .enum-told3 .given .1)
-      (put .put-record .ensures) (list .read-list .ensures)
+      (put .draft-record .ensures) (list .read-list .ensures)
 
   list-same-length-4 : read-list-lts.Need-same-length-4 (list-calls t) (read-list-at t) read-list.Post
   list-same-length-4 c =
       let put = c .before .before in
-      put .put-record2 .kept .0 ∙ l-part (put .before .before .before .before .before .before) .read-part .kept .1 .1 .1 .0
+      put .draft-record2 .kept .0 ∙ l-part (put .before .before .before .before .before .before) .read-part .kept .1 .1 .1 .0
 
   list-returns-4 : read-list-lts.Need-returns-4 (list-calls t) (read-list-at t) read-list.Post
   list-returns-4 c =
       let put = c .before .before in
       let n = put .before .before .before .before .before in
       let k = n .before in
-      list-ends (l-ready (l-part k)) _ (l-member k .1) (n .next .ensures) (put .before .before .enum-told4 .given .1) (put .put-record2 .ensures)
+      list-ends (l-ready (l-part k)) _ (l-member k .1) (n .next .ensures) (put .before .before .enum-told4 .given .1) (put .draft-record2 .ensures)
 
   list-same-length-5 : read-list-lts.Need-same-length-5 (list-calls t) (read-list-at t) read-list.Post
   list-same-length-5 c = l-part (c .before .before .before) .read-part .kept .1 .1 .1 .0
@@ -281,7 +281,7 @@ pub +read-list+read-part-spec : {M : Type 1} → statement M
     (λ t.
     read-list-lts.spec (list-calls t) (read-list-at t) read-list.Post
     (list-read-part-requires t) (λ c. search needs) (λ c. search needs) (λ c. search needs) (list-next-requires t) (λ c. search needs)
-    (list-add-put-record t) (list-put-record-requires t) (list-read-list-requires t) (λ c. search needs) (list-put-record-requires-2 t)
+    (list-add-draft-record t) (list-draft-record-requires t) (list-read-list-requires t) (λ c. search needs) (list-draft-record-requires-2 t)
     (list-same-length t) (list-returns t) (list-same-length-2 t) (list-returns-2 t) (list-same-length-3 t) (list-returns-3 t)
     (list-same-length-4 t) (list-returns-4 t) (list-same-length-5 t) (list-returns-5 t))
     (λ t.

@@ -8,7 +8,7 @@ use Rattle.newick.specs.declared.part.Part.{Part}
 use Rattle.newick.proofs.Grown.{origin, origin-ready, tree-fails, tree-overflows, tree-open, tree-reads}
 use Rattle.newick.proofs.Parts.{part-is, part-of}
 use Rattle.newick.proofs.part.read_part.Reads as read-part-reads
-use Rattle.newick.proofs.record.put_record.Reads as put-record-reads
+use Rattle.newick.proofs.record.draft_record.Reads as draft-record-reads
 use Rattle.newick.proofs.scan.ends_at.Reads as ends-at-reads
 use Rattle.newick.proofs.reader.read_tree.Statement.{statement}
 use Rattle.newick.proofs.reader.read_tree.Tie as tie
@@ -21,8 +21,8 @@ calls = (
   read-part-reads.Learnt,
   ends-at-reads.Asked,
   ends-at-reads.Learnt,
-  put-record-reads.Asked,
-  put-record-reads.Learnt,
+  draft-record-reads.Asked,
+  draft-record-reads.Learnt,
 )
 
 abbrev After-read-part : Type 0
@@ -53,8 +53,8 @@ returns c =
     let end = c .before in
     tree-open (start (part-read (end .before)) .pre) (is-read (end .before)) (sym (not-true _ (c .if1 .taken)) ∙ end .ends-at .ensures)
 
-put-record-requires : tie.Need-put-record-requires
-put-record-requires c κs =
+draft-record-requires : tie.Need-draft-record-requires
+draft-record-requires c κs =
     let p = part-read (c .before .before .before) in
     (omega arith, p .read-part .kept .1 .1 .1 .0 ∙ start p .pre)
 
@@ -67,7 +67,7 @@ returns-3 c = tree-overflows (part-is Part.Many (c .before .before .before .befo
 same-length-4 : tie.Need-same-length-4
 same-length-4 c =
     let put = c .before .before in
-    put .put-record .kept .0 ∙ part-read (put .before .before .before .before) .read-part .kept .1 .1 .1 .0
+    put .draft-record .kept .0 ∙ part-read (put .before .before .before .before) .read-part .kept .1 .1 .1 .0
 
 returns-4 : tie.Need-returns-4
 returns-4 c =
@@ -75,7 +75,7 @@ returns-4 c =
     let test = put .before .before in
     let known = test .before .before in
     tree-reads (start (part-read known) .pre) (is-read known) (sym (not-false _ (test .if1 .left)) ∙ test .before .ends-at .ensures)
-    (put .put-record .ensures)
+    (put .draft-record .ensures)
 
 pub read-tree-spec : {M : Type 1} → statement M
 read-tree-spec =
@@ -88,7 +88,7 @@ read-tree-spec =
     ends-at-requires
     (λ c. part-read (c .before .before) .read-part .kept .1 .1 .1 .0)
     returns
-    put-record-requires
+    draft-record-requires
     (λ c. c .before .before .before .before .read-part .kept .1 .1 .1 .0)
     returns-2
     (λ c. c .before .before .before .before .read-part .kept .1 .1 .1 .0)

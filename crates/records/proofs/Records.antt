@@ -1,15 +1,56 @@
--- The fields of a record and its sixteen bytes: each gives the other.
-use Prim.Native.Nat.{ℕ, _+_, _*_, _-_, _/_, _%_, _<_}
-use mathlib.Core.Path.{_≡_, sym, ap, ap₂, _∙_}
+-- The fields of a record and its sixteen bytes: each gives the other. Records one after the other.
+use Prim.Native.Nat.{ℕ, zero, suc, _+_, _*_, _-_, _/_, _%_, _<_}
+use mathlib.Core.Path.{_≡_, refl, sym, ap, ap₂, _∙_}
 use mathlib.Core.List.{List, _∷_, _++_, append-assoc}
 use native.Mathlib.Omega.{arith}
-use lib.ListN.{length, getD, drop}
+use lib.ListN.{length, getD, drop, length-append}
 use lib.Seq.{getD-drop, drop-drop, drop-at}
-use Rattle.lists.specs.Lists.{Bytes}
+use Rattle.lists.specs.Lists.{from, Bytes}
+use Rattle.lists.proofs.Pieces.{two-at}
 use Rattle.outline.specs.Inner.{IsRecord}
 use Rattle.outline.specs.Outline.{short, long, next, first, branch, price, plateField, bytes, recordBytes}
-use Rattle.newick.proofs.Fields.{bytes-halves}
-use Rattle.newick.proofs.Pairing.{pair-at}
+use Rattle.text.specs.Text.{texts}
+
+-- four bytes are twice two
+pub bytes-halves : (v : ℕ) → bytes 2 (v % 65536) ++ bytes 2 (v / 65536) ≡ bytes 4 v
+unfolding bytes
+bytes-halves v =
+    let high : v / 65536 ≡ v / 256 / 256 = omega arith in
+    let low : v % 65536 / 256 ≡ v / 256 % 256 = omega arith in
+    let a : v % 65536 % 256 ≡ v % 256 = omega arith in
+    let b : v / 256 % 256 % 256 ≡ v / 256 % 256 = omega arith in
+    rw (a, low, b, high)
+
+-- a record has sixteen bytes
+pub record-length : (next first branch price plate : ℕ) → length (recordBytes next first branch price plate) ≡ 16
+unfolding recordBytes bytes
+record-length next first branch price plate = refl
+
+-- ---- records one after the other
+module _ (f : ℕ → List ℕ) (sixteen : (r : ℕ) → length (f r) ≡ 16) where
+  pub records-length : (k n : ℕ) → length (texts f (from k n)) ≡ 16 * n
+  unfolding texts from
+  records-length k zero = refl
+  records-length k (suc n) = length-append (f k) (texts f (from (k + 1) n)) ∙ omega (arith, sixteen k, records-length (k + 1) n)
+
+  -- from the record after i others on
+  pub records-at : (k n i : ℕ) → i < n → drop (16 * i) (texts f (from k n)) ≡ f (k + i) ++ texts f (from (k + i + 1) (n - i - 1))
+  unfolding texts from
+  records-at k zero i h = absurd (omega arith)
+  records-at k (suc n) zero h =
+      let e : k + 0 ≡ k = omega arith in
+      let m : suc n - 0 - 1 ≡ n = omega arith in
+      rw (e, m)
+  records-at k (suc n) (suc i) h =
+      let rest = texts f (from (k + 1) n) in
+      let e : 16 * suc i ≡ 16 + 16 * i = omega arith in
+      let place : k + 1 + i ≡ k + suc i = omega arith in
+      let left : n - i - 1 ≡ suc n - suc i - 1 = omega arith in
+      ap (λ j. drop j (f k ++ rest)) e
+      ∙ sym (drop-drop (16 * i) 16 (f k ++ rest))
+      ∙ ap (drop (16 * i)) (drop-at (f k) rest 16 (sixteen k))
+      ∙ records-at (k + 1) n i (omega arith)
+      ∙ ap₂ (λ j m. f j ++ texts f (from (j + 1) m)) place left
 
 -- ---- fields from bytes
 module _ (o : List ℕ) where
@@ -69,7 +110,7 @@ module _ (o : List ℕ) (small : Bytes o) where
       let low : getD o i 0 ≡ (getD o i 0 + 256 * getD o (i + 1) 0) % 256 = omega arith in
       let tenth : (getD o i 0 + 256 * getD o (i + 1) 0) / 256 ≡ getD o (i + 1) 0 = omega arith in
       let high : getD o (i + 1) 0 ≡ (getD o i 0 + 256 * getD o (i + 1) 0) / 256 % 256 = rw tenth (omega arith) in
-      pair-at o i h ∙ ap₂ (λ (x : ℕ) (y : ℕ). x ∷ y ∷ drop (i + 2) o) low high
+      two-at o i h ∙ ap₂ (λ (x : ℕ) (y : ℕ). x ∷ y ∷ drop (i + 2) o) low high
 
   long-split : (i j : ℕ) → j ≡ i + 4 → i + 3 < length o → drop i o ≡ bytes 4 (long o i) ++ drop j o
   unfolding long
