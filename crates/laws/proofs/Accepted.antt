@@ -1,41 +1,23 @@
 -- An outline that keeps every rule is accepted; and so is one that has the links and the plates of an accepted outline, where its fields
 -- are in their ranges.
-use Prim.Native.Nat.{ℕ, zero, suc, _+_, _-_, _%_, _≤_, _<_}
+use Prim.Native.Nat.{ℕ, _+_, _-_, _%_, _≤_, _<_}
 use mathlib.Core.Path.{_≡_, refl, sym, ap, ap₂, _∙_}
-use mathlib.Core.Bool.{Bool, true, false, _||_, _&&_, not, false≢true}
+use mathlib.Core.Bool.{Bool, true, false, _||_, _&&_, not}
 use mathlib.Core.List.{List}
 use native.Mathlib.Omega.{arith}
 use lib.ListN.{length}
 use lib.Dec.{eqb, ltb, leb}
 use borrow.Author.Tests.{eqb-true, eqb-false, eq-eqb, ne-eqb, le-ltb, lt-leb}
-use Rattle.lists.specs.Lists.{pick, one, from, anywhere, total}
-use Rattle.lists.proofs.Walk.{Lowest, none, here, lowest-from}
-use Rattle.refusals.specs.Refusals.{Told, tells, passed, row, rowAt, _▸_}
+use Rattle.lists.specs.Lists.{pick, one, from, total}
+use Rattle.lists.proofs.Walk.{none-anywhere}
+use Rattle.refusals.specs.Refusals.{row, rowAt}
+use Rattle.refusals.proofs.Refusals.{both-passes, row-passes, row-at-passes}
 use Rattle.outline.specs.Inner.{IsRecord}
 use Rattle.outline.specs.Outline.{size, records, next, first, branch, price, plateField, plate, isTaxon}
 use Rattle.outline.specs.Refusals.{badField, stray, naming, named, badLink, taxaIn, taxa, hasPlate, isDuplicate, mostRecords, mostTaxa}
 use Rattle.outline.specs.Refusals.{sizeRows, recordRows, checked, isAccepted}
 use Rattle.outline.specs.Kept.{Later, Ranged, Kept}
 use Rattle.laws.proofs.Sums.{total-ext}
-
--- ---- rows that pass
-both-passes : (a b : Told) → a .number ≡ 0 → b .number ≡ 0 → (a ▸ b) .number ≡ 0
-both-passes a b e d = ap (λ t. (pick t b a) .number) (eq-eqb (a .number) 0 e) ∙ d
-
-row-passes : (n : ℕ) (holds : Bool) → holds ≡ false → (row n holds) .number ≡ 0
-row-passes n holds e = ap (λ b. (row n b) .number) e
-
-row-at-passes : (n size : ℕ) (holds : ℕ → Bool) → ((r : ℕ) → 1 ≤ r → r ≤ size → holds r ≡ false) → (rowAt n holds size) .number ≡ 0
-row-at-passes n size holds f = ap (λ p. (pick (eqb p 0) passed (tells n p)) .number) (go (lowest-from holds 1 size))
-  where
-    go : {v : ℕ} → Lowest holds 1 size v → v ≡ 0
-    go (none g) = refl
-    go (here {r} l u t g) = absurd (false≢true (sym (f r l (omega arith)) ∙ t))
-
-nowhere : (p : ℕ → Bool) (a n : ℕ) → ((q : ℕ) → a ≤ q → q < a + n → p q ≡ false) → anywhere p (from a n) ≡ false
-unfolding anywhere from
-nowhere p a zero f = refl
-nowhere p a (suc n) f = ap₂ _||_ (f a (omega arith) (omega arith)) (nowhere p (a + 1) n (λ q l u. f q (omega arith) (omega arith)))
 
 -- ---- each rule's test fails
 module _ (o : List ℕ) (kept : Kept o) (r : ℕ) (l : 1 ≤ r) (u : r ≤ size o) where
@@ -72,7 +54,7 @@ module _ (o : List ℕ) (kept : Kept o) (r : ℕ) (l : 1 ≤ r) (u : r ≤ size 
 
   good-plate : isDuplicate o r ≡ false
   unfolding isDuplicate hasPlate
-  good-plate = nowhere (hasPlate o (plate o r)) 1 (r - 1) (λ q lq uq. go q lq (omega arith) (isTaxon o q) refl (eqb (plate o q) (plate o r)) refl)
+  good-plate = none-anywhere (hasPlate o (plate o r)) (r - 1) (λ q lq uq. go q lq (omega arith) (isTaxon o q) refl (eqb (plate o q) (plate o r)) refl)
     where
       twin : (q : ℕ) → 1 ≤ q → q < r → isTaxon o q ≡ true → plate o q ≡ plate o r → (b : Bool) → isTaxon o r ≡ b → ⊥
       twin q lq uq t e true s = let same = kept .plates-differ q r lq (omega arith) l u t s e in omega arith
@@ -97,11 +79,11 @@ kept-accepted o kept = eq-eqb (checked o .number) 0 (both-passes (sizeRows o) (r
 
     rows : (recordRows o) .number ≡ 0
     rows =
-        both-passes (rowAt 5 (badField o) (size o)) _ (row-at-passes 5 (size o) (badField o) (good-field o kept))
-        (both-passes (rowAt 6 (badLink o) (size o)) _ (row-at-passes 6 (size o) (badLink o) (good-link o kept))
+        both-passes (rowAt 5 (badField o) (size o)) _ (row-at-passes 5 (badField o) (size o) (good-field o kept))
+        (both-passes (rowAt 6 (badLink o) (size o)) _ (row-at-passes 6 (badLink o) (size o) (good-link o kept))
         (both-passes (row 7 (ltb mostTaxa (taxa o))) (rowAt 8 (isDuplicate o) (size o))
         (row-passes 7 (ltb mostTaxa (taxa o)) (le-ltb mostTaxa (taxa o) (kept .taxa-most)))
-        (row-at-passes 8 (size o) (isDuplicate o) (good-plate o kept))))
+        (row-at-passes 8 (isDuplicate o) (size o) (good-plate o kept))))
 
 -- ---- outlines with the same links and plates
 pub record SameLinks (o p : List ℕ) : Type 0 where

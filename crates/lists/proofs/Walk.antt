@@ -1,13 +1,13 @@
 -- Loops through the numbers 1 to n, by what each has yet to pass: one that sums, and one that seeks the lowest number at
 -- which a test holds; and what `lowest` then tells.
 use Prim.Native.Nat.{ℕ, zero, suc, _+_, _*_, _-_, _≤_, _<_}
-use mathlib.Core.Path.{_≡_, refl, ap, _∙_}
-use mathlib.Core.Bool.{Bool, true, false, not}
+use mathlib.Core.Path.{_≡_, refl, sym, ap, _∙_}
+use mathlib.Core.Bool.{Bool, true, false, not, false≢true}
 use mathlib.Core.List.{List, [], _∷_, _++_}
 use native.Mathlib.Nat.{mul-add}
 use native.Mathlib.Omega.{arith}
 use lib.Dec.{eqb}
-use borrow.Author.Tests.{ne-eqb, eqb-true, eqb-false, not-false}
+use borrow.Author.Tests.{eq-eqb, ne-eqb, eqb-true, eqb-false, not-false}
 use Rattle.lists.specs.Lists.{from, anywhere, total, lowest}
 use Rattle.lists.proofs.Bools.{both-false}
 
@@ -115,6 +115,14 @@ module _ (p : ℕ → Bool) (n : ℕ) where
       go (none f) e = f r l (omega arith)
       go (here a b h f) e = absurd (omega arith)
 
+  -- and where the test holds nowhere, it is 0
+  pub none-lowest : ((r : ℕ) → 1 ≤ r → r ≤ n → p r ≡ false) → lowest p (from 1 n) ≡ 0
+  none-lowest f = go (lowest-from p 1 n)
+    where
+      go : {v : ℕ} → Lowest p 1 n v → v ≡ 0
+      go (none g) = refl
+      go (here {r} l u t g) = absurd (false≢true (sym (f r l (omega arith)) ∙ t))
+
   -- where it is not 0, it is one of the numbers, and the test holds there
   pub lowest-holds : (lowest p (from 1 n) ≡ 0 → ⊥) → (1 ≤ lowest p (from 1 n)) × (lowest p (from 1 n) ≤ n) × (p (lowest p (from 1 n)) ≡ true)
   lowest-holds d = go (lowest-from p 1 n) d
@@ -146,6 +154,9 @@ anywhere-lowest p n = anywhere-from p 1 n (omega arith)
 
 pub anywhere-none : (p : ℕ → Bool) (n : ℕ) → anywhere p (from 1 n) ≡ false → (r : ℕ) → 1 ≤ r → r ≤ n → p r ≡ false
 anywhere-none p n e = lowest-none p n (eqb-true _ _ (not-false _ (anywhere-lowest p n ∙ e)))
+
+pub none-anywhere : (p : ℕ → Bool) (n : ℕ) → ((r : ℕ) → 1 ≤ r → r ≤ n → p r ≡ false) → anywhere p (from 1 n) ≡ false
+none-anywhere p n f = sym (anywhere-lowest p n) ∙ ap not (eq-eqb _ _ (none-lowest p n f))
 
 -- the numbers from k on, in two parts
 pub from-both : (k a b : ℕ) → from k (a + b) ≡ from k a ++ from (k + a) b

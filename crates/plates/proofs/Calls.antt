@@ -17,7 +17,7 @@ use Rattle.view.specs.Answer as view
 use Rattle.view.specs.Demands.{BuyersCalls, Suffices, SameBytes}
 use Rattle.view.specs.View.{buyerView}
 use Rattle.view.proofs.Demands.{buyers-alike, buyers-alike-whole}
-use Rattle.plates.specs.Interface.{chosenIn, Chosen, listedIn, SheetListed, readIn, TextRead, writtenIn, TextWritten, shownIn, Viewed}
+use Rattle.plates.specs.Interface.{chosenIn, Chosen, listedIn, SheetListed, readIn, TextRead, writtenIn, TextWritten, toldIn, Viewed}
 
 -- where the records stand in text order, reading what was written gives back the same bytes
 pub written-read : {c : write.Call} {d : read.Call} {n m : ℕ} {answer text pairs answer′ outline : List ℕ}
@@ -47,8 +47,8 @@ chosen-listed {c} {d} x z h y = choice-listed c (x .answered) (sym (x .number-gi
 -- from views alike the whole
 module _ {c d : view.Call} {n m : ℕ} {answer answer′ shown shown′ : List ℕ} (both : BuyersCalls c d) (x : Viewed buyerView c n answer shown)
     (y : Viewed buyerView d m answer′ shown′) where
-  pub buyers-shown : Suffices c → Suffices d → SameBytes c d (shownIn answer) (shownIn answer′) shown shown′
+  pub buyers-shown : Suffices c → Suffices d → SameBytes c d (toldIn answer) (toldIn answer′) shown shown′
   buyers-shown = buyers-alike both (x .answered) (y .answered)
 
-  pub buyers-shown-whole : c .view ≡ d .view → (shownIn answer ≡ shownIn answer′) × (shown ≡ shown′)
+  pub buyers-shown-whole : c .view ≡ d .view → (toldIn answer ≡ toldIn answer′) × (shown ≡ shown′)
   buyers-shown-whole = buyers-alike-whole both (x .answered) (y .answered)

@@ -64,9 +64,9 @@ abbrev pub TextWritten : write.Call → ℕ → List ℕ → List ℕ → List �
 TextWritten c number answer text pairs = Given 4 writtenIn (λ r. write.Answered c r text pairs) number answer
 
 -- the two numbers of a view
-abbrev pub shownIn : List ℕ → Told
-shownIn answer = tells (getD answer 0 0) (getD answer 1 0)
+abbrev pub toldIn : List ℕ → Told
+toldIn answer = tells (getD answer 0 0) (getD answer 1 0)
 
 -- a call is answered by them as the view for a reader that gets what is shown answers it
 abbrev pub Viewed : (List ℕ → List ℕ) → view.Call → ℕ → List ℕ → List ℕ → Type 0
-Viewed shown c number answer lent = Given 2 shownIn (λ t. view.Answered shown c t lent) number answer
+Viewed shown c number answer lent = Given 2 toldIn (λ t. view.Answered shown c t lent) number answer

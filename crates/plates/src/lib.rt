@@ -11,7 +11,7 @@ ghost use Rattle.choice.specs.Answer.{call};
 ghost use Rattle.sheet.specs.Answer.{call as listing};
 ghost use Rattle.view.specs.Answer.{call as viewing};
 ghost use Rattle.view.specs.View.{houseView, buyerView};
-ghost use Rattle.plates.specs.Interface.{Given, Chosen, SheetListed, TextRead, TextWritten, shownIn, Viewed};
+ghost use Rattle.plates.specs.Interface.{Given, Chosen, SheetListed, TextRead, TextWritten, toldIn, Viewed};
 use choice::Answer;
 use choice::choose;
 use newick::read;
@@ -171,7 +171,7 @@ pub extern "C" fn plates_write(
 // Writes the number and the place of a verdict, and gives the number.
 fn tell(verdict: Verdict, answer: &mut [u32; 2]) -> u32
     requires { ⌜ told verdict .place ≤ mostRecords ⌝ }
-    ensures { λ n. ⌜ Given 2 shownIn (λ t. t ≡ told verdict) n (now (answer .exit)) ⌝ }
+    ensures { λ n. ⌜ Given 2 toldIn (λ t. t ≡ told verdict) n (now (answer .exit)) ⌝ }
 {
     match verdict {
         Verdict::Accepted => {

@@ -4,8 +4,9 @@ use mathlib.Core.Path.{_≡_, refl, sym, ap, _∙_}
 use mathlib.Core.Bool.{Bool, true, false}
 use native.Mathlib.Omega.{arith}
 use lib.Dec.{eqb}
-use borrow.Author.Tests.{ne-eqb, eqb-true, eqb-false}
+use borrow.Author.Tests.{eq-eqb, ne-eqb, eqb-true, eqb-false}
 use Rattle.lists.specs.Lists.{pick, from, lowest}
+use Rattle.lists.proofs.Walk.{none-lowest}
 use Rattle.refusals.specs.Refusals.{Told, tells, passed, refusal, told, _▸_, row, rowAt}
 use Rattle.refusals.specs.declared.verdict.Refusal.{Refusal}
 use Rattle.refusals.specs.declared.verdict.Verdict.{Verdict}
@@ -99,3 +100,13 @@ row-at-fails n holds size z = go (eqb (lowest holds (from 1 size)) 0) refl z
         → (pick t passed (tells (suc n) (lowest holds (from 1 size)))) .number ≡ 0 → lowest holds (from 1 size) ≡ 0
     go true e z = eqb-true _ _ e
     go false e z = absurd (omega arith)
+
+-- the converse: rows that pass, and a row whose condition fails
+pub both-passes : (a b : Told) → a .number ≡ 0 → b .number ≡ 0 → (a ▸ b) .number ≡ 0
+both-passes a b e d = ap (λ t. (pick t b a) .number) (eq-eqb (a .number) 0 e) ∙ d
+
+pub row-passes : (n : ℕ) (holds : Bool) → holds ≡ false → (row n holds) .number ≡ 0
+row-passes n holds e = ap (λ b. (row n b) .number) e
+
+pub row-at-passes : (n : ℕ) (holds : ℕ → Bool) (size : ℕ) → ((r : ℕ) → 1 ≤ r → r ≤ size → holds r ≡ false) → (rowAt n holds size) .number ≡ 0
+row-at-passes n holds size f = ap (λ p. (pick (eqb p 0) passed (tells n p)) .number) (none-lowest holds size f)

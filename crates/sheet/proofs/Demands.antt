@@ -2,7 +2,7 @@
 use Prim.Native.Nat.{ℕ, zero, suc, _+_, _*_, _-_, _≤_, _<_}
 use mathlib.Core.Path.{_≡_, refl, sym, ap, subst, _∙_}
 use mathlib.Core.Logic.{_⊎_, ⊎-elim}
-use mathlib.Core.Bool.{Bool, true, false, _||_, _&&_, not, false≢true}
+use mathlib.Core.Bool.{Bool, true, false, _||_, _&&_, not}
 use mathlib.Core.List.{List}
 use native.Mathlib.Omega.{arith}
 use lib.Dec.{eqb, ltb}
@@ -11,7 +11,7 @@ use lib.Seq.{getD-take, take-all}
 use borrow.Author.Tests.{eqb-true, ne-eqb, le-ltb}
 use Rattle.lists.specs.Lists.{pick, from, lowest, over}
 use Rattle.lists.proofs.Buffers.{over-past}
-use Rattle.lists.proofs.Walk.{Lowest, none, here, lowest-from}
+use Rattle.lists.proofs.Walk.{none-lowest}
 use Rattle.refusals.specs.Refusals.{Told, refusal}
 use Rattle.refusals.specs.Table.{Gives}
 use Rattle.refusals.proofs.Refusals.{refusal-numbered, refusal-determined}
@@ -160,17 +160,15 @@ module _ (c : Call) {r : Reply} {sheet : List ℕ} (x : Answered c r sheet) wher
 -- ---- a set of taxa of an accepted outline is listed, where there is room
 no-bad : (o marks : List ℕ) → IsSet o (take (size o) marks) → lowest (badMark o marks) (from 1 (size o)) ≡ 0
 unfolding badMark
-no-bad o marks x = go (lowest-from (badMark o marks) 1 (size o))
+no-bad o marks x = none-lowest (badMark o marks) (size o) each
   where
     good : (r m : ℕ) → MarkAt o r m → (ltb 1 m || (eqb m 1 && not (isTaxon o r))) ≡ false
     good r m = ⊎-elim (λ (z : m ≡ 0). rw z) (λ (h : (m ≡ 1) × (isTaxon o r ≡ true)). rw (h .0, h .1))
 
-    go : {v : ℕ} → Lowest (badMark o marks) 1 (size o) v → v ≡ 0
-    go (none f) = refl
-    go (here {r} l u e f) =
+    each : (r : ℕ) → 1 ≤ r → r ≤ size o → badMark o marks r ≡ false
+    each r l u =
         let same = getD-take (size o) marks (r - 1) 0 (omega arith) in
-        let fine = good r (getD marks (r - 1) 0) (subst (MarkAt o r) same (x .marks r l (omega arith))) in
-        absurd (false≢true (sym fine ∙ e))
+        good r (getD marks (r - 1) 0) (subst (MarkAt o r) same (x .marks r l u))
 
 module _ (c : Call) (accepted : checked (c .outline) .number ≡ 0) (known : (c .way ≡ 0) ⊎ (c .way ≡ 1)) (x : IsSet (c .outline) (markedSet c))
     (room : sheetTaken c ≤ length (c .sheet)) where

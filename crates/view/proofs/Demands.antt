@@ -92,8 +92,8 @@ module _ {c d : Call} (both : BuyersCalls c d) {t u : Told} {view view′ : List
       let shown = x .told-judged ∙ suffices-passed c (both .accepted) h in
       let also = y .told-judged ∙ suffices-passed d (both .also-accepted) k in
       record {
-        shown = shown;
-        also-shown = also;
+        passes = shown;
+        also-passes = also;
         identical =
             buyer-bytes c x (ap (λ (s : Told). s .number) shown)
             ∙ buyer-alike (c .outline) (d .outline) (both .agree)

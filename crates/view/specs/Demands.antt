@@ -21,17 +21,17 @@ abbrev pub ShownOrRefused : Call → Told → List ℕ → Type 1
 ShownOrRefused c t view = Decided (viewTable c) t [] (c .view ∷ []) (view ∷ [])
 
 -- the bytes that a reader gets, and those past them
-abbrev pub shownIn : Call → List ℕ → List ℕ
-shownIn c view = take (viewTaken c) view
+abbrev pub readerBytes : Call → List ℕ → List ℕ
+readerBytes c view = take (viewTaken c) view
 
-abbrev pub pastIn : Call → List ℕ → List ℕ
-pastIn c view = drop (viewTaken c) view
+abbrev pub bytesPast : Call → List ℕ → List ℕ
+bytesPast c view = drop (viewTaken c) view
 
 -- a house reader gets the outline's bytes, and what is past them is unchanged
 pub record HouseGiven (c : Call) (view : List ℕ) : Type 0 where
   pub accepted : checked (c .outline) ≡ passed
-  pub bytes-are : shownIn c view ≡ c .outline
-  pub past-same : pastIn c view ≡ pastIn c (c .view)
+  pub bytes-are : readerBytes c view ≡ c .outline
+  pub past-same : bytesPast c view ≡ bytesPast c (c .view)
 
 -- record r of what a buyer's reader gets: the links, the length and the plate of the outline's, price 0, and a field that is its plate
 -- alone, so that no lock stands there
@@ -47,10 +47,10 @@ pub record Cleared (o shown : List ℕ) (r : ℕ) : Type 0 where
 -- unchanged
 pub record BuyerGiven (c : Call) (view : List ℕ) : Type 0 where
   pub accepted : checked (c .outline) ≡ passed
-  pub shown-accepted : checked (shownIn c view) ≡ passed
-  pub size-same : size (shownIn c view) ≡ size (c .outline)
-  pub cleared : (r : ℕ) → IsRecord (c .outline) r → Cleared (c .outline) (shownIn c view) r
-  pub past-same : pastIn c view ≡ pastIn c (c .view)
+  pub shown-accepted : checked (readerBytes c view) ≡ passed
+  pub size-same : size (readerBytes c view) ≡ size (c .outline)
+  pub cleared : (r : ℕ) → IsRecord (c .outline) r → Cleared (c .outline) (readerBytes c view) r
+  pub past-same : bytesPast c view ≡ bytesPast c (c .view)
 
 -- two outlines agree except in prices and locks: record by record they have the same links, the same length and the same plate
 pub record AgreeButPricesAndLocks (o p : List ℕ) : Type 0 where
@@ -72,6 +72,6 @@ Suffices c = viewTaken c ≤ length (c .view)
 
 -- neither call is refused, and both readers get the same bytes
 pub record SameBytes (c d : Call) (t u : Told) (view view′ : List ℕ) : Type 0 where
-  pub shown : t ≡ passed
-  pub also-shown : u ≡ passed
-  pub identical : shownIn c view ≡ shownIn d view′
+  pub passes : t ≡ passed
+  pub also-passes : u ≡ passed
+  pub identical : readerBytes c view ≡ readerBytes d view′
