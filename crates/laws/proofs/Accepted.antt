@@ -19,7 +19,7 @@ use Rattle.outline.specs.Refusals.{sizeRows, recordRows, checked, isAccepted}
 use Rattle.outline.specs.Kept.{Later, Ranged, Kept}
 use Rattle.laws.proofs.Sums.{total-ext}
 
--- ---- each rule's test fails
+-- ---- no rule is broken
 module _ (o : List ℕ) (kept : Kept o) (r : ℕ) (l : 1 ≤ r) (u : r ≤ size o) where
   good-field : badField o r ≡ false
   unfolding badField
@@ -86,18 +86,18 @@ kept-accepted o kept = eq-eqb (checked o .number) 0 (both-passes (sizeRows o) (r
         (row-at-passes 8 (isDuplicate o) (size o) (good-plate o kept))))
 
 -- ---- outlines with the same links and plates
-pub record SameLinks (o p : List ℕ) : Type 0 where
-  pub lengths : length p ≡ length o
+pub record SameLinksAndPlates (o p : List ℕ) : Type 0 where
+  pub as-long : length p ≡ length o
   pub nexts : (r : ℕ) → IsRecord o r → next p r ≡ next o r
   pub firsts : (r : ℕ) → IsRecord o r → first p r ≡ first o r
   pub plates : (r : ℕ) → IsRecord o r → plate p r ≡ plate o r
 
-module _ (o p : List ℕ) (same : SameLinks o p) where
+module _ (o p : List ℕ) (same : SameLinksAndPlates o p) where
   sizes : size p ≡ size o
-  sizes = omega (arith, same .lengths)
+  sizes = omega (arith, same .as-long)
 
-  of-first : {r : ℕ} → 1 ≤ r → r ≤ size p → IsRecord o r
-  of-first l u = record { low = l; high = omega (arith, sizes) }
+  also-record : {r : ℕ} → 1 ≤ r → r ≤ size p → IsRecord o r
+  also-record l u = record { low = l; high = omega (arith, sizes) }
 
   taxon-same : (r : ℕ) → IsRecord o r → isTaxon p r ≡ isTaxon o r
   taxon-same r i = ap (λ q. eqb q 0) (same .firsts r i)
@@ -120,20 +120,20 @@ module _ (o p : List ℕ) (same : SameLinks o p) where
   -- where the one keeps the rules and the other's fields are in their ranges, the other keeps them
   pub same-kept : Kept o → ((r : ℕ) → IsRecord o r → Ranged p r) → Kept p
   same-kept kept ranged = record {
-    whole = omega (arith, same .lengths, kept .whole);
+    whole = omega (arith, same .as-long, kept .whole);
     size-most = rw sizes (kept .size-most);
-    ranged = λ r l u. ranged r (of-first l u);
+    ranged = λ r l u. ranged r (also-record l u);
     linked = record {
       filled = rw sizes (kept .linked .filled);
-      next-later = λ r l u. let i = of-first l u in later-same r _ _ (same .nexts r i) (kept .linked .next-later r l (i .high));
-      first-later = λ r l u. let i = of-first l u in later-same r _ _ (same .firsts r i) (kept .linked .first-later r l (i .high));
+      next-later = λ r l u. let i = also-record l u in later-same r _ _ (same .nexts r i) (kept .linked .next-later r l (i .high));
+      first-later = λ r l u. let i = also-record l u in later-same r _ _ (same .firsts r i) (kept .linked .first-later r l (i .high));
       root-alone = same .nexts 1 (record { low = omega arith; high = kept .linked .filled }) ∙ kept .linked .root-alone;
       named-once = λ q l u. named-same q ∙ kept .linked .named-once q l (omega (arith, sizes));
     };
     taxa-most = rw taxa-same (kept .taxa-most);
     plates-differ = λ q r lq uq lr ur tq tr e.
-        let i = of-first lq uq in
-        let j = of-first lr ur in
+        let i = also-record lq uq in
+        let j = also-record lr ur in
         kept .plates-differ q r lq (i .high) lr (j .high) (sym (taxon-same q i) ∙ tq) (sym (taxon-same r j) ∙ tr)
         (sym (same .plates q i) ∙ e ∙ same .plates r j);
   }

@@ -1,4 +1,4 @@
-// Trees as text: reading a tree in Newick form, with its prices beside it, to an outline, and writing an outline so. A buyer calls
+// Trees as text: reading a tree in Newick form, with its prices beside it, to an outline, and writing an outline so. Layout software calls
 // `read` and `write`, which ask nothing of the caller.
 mod chains;
 mod cursor;

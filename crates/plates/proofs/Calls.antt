@@ -1,7 +1,7 @@
 -- What is promised of several calls, `plates_write` and `plates_read`, `plates_choose` and `plates_sheet`, `plates_view_buyer` twice: what
 -- is promised of the functions behind them, of the numbers that stand in `answer`.
 use Prim.Native.Nat.{ℕ, _≤_}
-use mathlib.Core.Path.{_≡_, sym, _∙_}
+use mathlib.Core.Path.{_≡_, sym, ap, _∙_}
 use mathlib.Core.List.{List}
 use lib.ListN.{length}
 use Rattle.diversity.specs.Order.{InTextOrder}
@@ -13,6 +13,7 @@ use Rattle.choice.specs.Answer as choose
 use Rattle.sheet.specs.Answer as sheet
 use Rattle.sheet.specs.Demands as sheets
 use Rattle.sheet.proofs.Demands.{choice-listed}
+use Rattle.refusals.specs.Refusals.{Told}
 use Rattle.view.specs.Answer as view
 use Rattle.view.specs.Demands.{BuyersCalls, Suffices, SameBytes}
 use Rattle.view.specs.View.{buyerView}
@@ -45,10 +46,17 @@ chosen-listed {c} {d} x z h y = choice-listed c (x .answered) (sym (x .number-gi
 
 -- two buyers' readers of accepted outlines that agree except in prices and locks get identical bytes: from any two views that suffice, and
 -- from views alike the whole
-module _ {c d : view.Call} {n m : ℕ} {answer answer′ shown shown′ : List ℕ} (both : BuyersCalls c d) (x : Viewed buyerView c n answer shown)
-    (y : Viewed buyerView d m answer′ shown′) where
-  pub buyers-shown : Suffices c → Suffices d → SameBytes c d (toldIn answer) (toldIn answer′) shown shown′
-  buyers-shown = buyers-alike both (x .answered) (y .answered)
+module _ {c d : view.Call} {n m : ℕ} {answer answer′ lent lent′ : List ℕ} (both : BuyersCalls c d) (x : Viewed buyerView c n answer lent)
+    (y : Viewed buyerView d m answer′ lent′) where
+  pub buyers-shown : Suffices c → Suffices d → (n ≡ 0) × (m ≡ 0) × SameBytes c d (toldIn answer) (toldIn answer′) lent lent′
+  buyers-shown h k =
+      let same = buyers-alike both (x .answered) (y .answered) h k in (
+        x .number-given ∙ ap (λ (t : Told). t .number) (same .told-passed),
+        y .number-given ∙ ap (λ (t : Told). t .number) (same .also-passed),
+        same,
+      )
 
-  pub buyers-shown-whole : c .view ≡ d .view → (toldIn answer ≡ toldIn answer′) × (shown ≡ shown′)
-  buyers-shown-whole = buyers-alike-whole both (x .answered) (y .answered)
+  pub buyers-shown-whole : c .view ≡ d .view → (n ≡ m) × (toldIn answer ≡ toldIn answer′) × (lent ≡ lent′)
+  buyers-shown-whole e =
+      let same = buyers-alike-whole both (x .answered) (y .answered) e in
+      (x .number-given ∙ ap (λ (t : Told). t .number) (same .0) ∙ sym (y .number-given), same .0, same .1)

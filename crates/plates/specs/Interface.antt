@@ -67,6 +67,6 @@ TextWritten c number answer text pairs = Given 4 writtenIn (λ r. write.Answered
 abbrev pub toldIn : List ℕ → Told
 toldIn answer = tells (getD answer 0 0) (getD answer 1 0)
 
--- a call is answered by them as the view for a reader that gets what is shown answers it
+-- a call is answered by them as `view_house` answers it, where what is shown is `houseView`, and as `view_buyer`, where it is `buyerView`
 abbrev pub Viewed : (List ℕ → List ℕ) → view.Call → ℕ → List ℕ → List ℕ → Type 0
 Viewed shown c number answer lent = Given 2 toldIn (λ t. view.Answered shown c t lent) number answer

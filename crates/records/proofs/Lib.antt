@@ -1,3 +1,3 @@
 -- Laws of records and their bytes, for the proofs here and in the crates above.
-pub mod Fields
 pub mod Records
+pub mod Writing

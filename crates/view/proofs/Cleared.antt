@@ -11,7 +11,7 @@ use Rattle.outline.specs.Inner.{IsRecord}
 use Rattle.outline.specs.Outline.{size, records, next, first, branch, plate, isTaxon, recordBytes}
 use Rattle.outline.specs.Kept.{Ranged, Kept}
 use Rattle.outline.specs.Refusals.{isAccepted}
-use Rattle.laws.proofs.Accepted.{SameLinks, kept-accepted, same-kept}
+use Rattle.laws.proofs.Accepted.{SameLinksAndPlates, kept-accepted, same-kept}
 use Rattle.text.specs.Text.{texts}
 use Rattle.text.specs.Written.{LongEnough}
 use Rattle.text.proofs.Texts.{texts-ext}
@@ -50,9 +50,6 @@ buyer-alike o p agree =
 
 -- ---- of an outline that keeps the rules
 module _ (o : List ℕ) (kept : Kept o) where
-  buyer-size : size (buyerView o) ≡ size o
-  buyer-size = omega (arith, buyer-length o)
-
   module _ (r : ℕ) (i : IsRecord o r) where
     buyer-fields : Fields (buyerView o) r (next o r) (first o r) (branch o r) 0 (plate o r)
     unfolding buyerView buyerRecord records
@@ -82,9 +79,9 @@ module _ (o : List ℕ) (kept : Kept o) where
   buyer-kept : Kept (buyerView o)
   buyer-kept = same-kept o (buyerView o) links kept ranged
     where
-      links : SameLinks o (buyerView o)
+      links : SameLinksAndPlates o (buyerView o)
       links = record {
-        lengths = omega (arith, buyer-length o, kept .whole);
+        as-long = omega (arith, buyer-length o, kept .whole);
         nexts = λ r i. buyer-cleared r i .next-same;
         firsts = λ r i. buyer-cleared r i .first-same;
         plates = λ r i. buyer-cleared r i .plate-same;

@@ -26,11 +26,16 @@ judged-gives : (c : Call) → Gives (viewTable c) (judged c)
 unfolding judged
 judged-gives c = gives-then (checked-gives (c .outline)) (gives-whole 8 (decides-less (length (c .view)) (viewTaken c)))
 
+-- no row holds where the outline is accepted and the view suffices
+suffices-passed : (c : Call) → checked (c .outline) ≡ passed → Suffices c → judged c ≡ passed
+unfolding judged
+suffices-passed c a h = rw (a, le-ltb _ _ h)
+
 module _ {shown : List ℕ → List ℕ} (c : Call) {t : Told} {view : List ℕ} (x : Answered shown c t view) where
   number-is : t .number ≡ judged c .number
   number-is = ap (λ (u : Told). u .number) (x .told-judged)
 
-  -- demand 1: the view is written, or exactly one refusal of the table, under its condition only; a refusal leaves the view
+  -- demand 1: no refusal, or exactly one of the table, under its condition only; a refusal leaves the view
   pub demand-1 : ShownOrRefused c t view
   unfolding viewAfter
   demand-1 = record {
@@ -39,22 +44,26 @@ module _ {shown : List ℕ → List ℕ} (c : Call) {t : Told} {view : List ℕ}
     unchanged = λ h. rw (x .view-written, ne-eqb (judged c .number) 0 (λ z. omega (arith, number-is)));
   }
 
+  -- an accepted outline is shown where the view suffices: nothing else stops it
+  pub view-shown : checked (c .outline) ≡ passed → Suffices c → t ≡ passed
+  view-shown a h = x .told-judged ∙ suffices-passed c a h
+
   -- the number told is 0
   module _ (z : t .number ≡ 0) where
-    pub passes : judged c .number ≡ 0
-    passes = sym number-is ∙ z
+    no-row : judged c .number ≡ 0
+    no-row = sym number-is ∙ z
 
-    pub view-is : view ≡ over (shown (c .outline)) (c .view)
+    view-is : view ≡ over (shown (c .outline)) (c .view)
     unfolding viewAfter
-    view-is = x .view-written ∙ rw passes
+    view-is = x .view-written ∙ rw no-row
 
-    pub call-accepted : checked (c .outline) ≡ passed
-    call-accepted = gives-passed (checked-gives (c .outline)) (outline-accepted c passes)
+    call-accepted : checked (c .outline) ≡ passed
+    call-accepted = gives-passed (checked-gives (c .outline)) (outline-accepted c no-row)
 
 -- a house reader gets the outline's bytes
 pub house-given : (c : Call) {t : Told} {view : List ℕ} → Answered houseView c t view → t .number ≡ 0 → HouseGiven c view
 house-given c x z =
-    let whole = outline-kept c (passes c x z) .whole in
+    let whole = outline-kept c (no-row c x z) .whole in
     record {
       accepted = call-accepted c x z;
       bytes-are = ap (take (viewTaken c)) (view-is c x z) ∙ over-taken (c .outline) (c .view) (viewTaken c) whole;
@@ -69,33 +78,28 @@ buyer-bytes c x z =
 pub buyer-given : (c : Call) {t : Told} {view : List ℕ} → Answered buyerView c t view → t .number ≡ 0 → BuyerGiven c view
 buyer-given c x z =
     let o = c .outline in
-    let kept = outline-kept c (passes c x z) in
-    let shown = buyer-bytes c x z in
+    let kept = outline-kept c (no-row c x z) in
+    let bytes = buyer-bytes c x z in
     record {
       accepted = call-accepted c x z;
-      shown-accepted = ap checked shown ∙ gives-passed (checked-gives (buyerView o)) (eqb-true _ _ (buyer-accepted o kept));
-      size-same = ap size shown ∙ omega (arith, buyer-length o);
-      cleared = λ r i. subst (λ s. Cleared o s r) (sym shown) (buyer-cleared o kept r i);
+      also-accepted = ap checked bytes ∙ gives-passed (checked-gives (buyerView o)) (eqb-true _ _ (buyer-accepted o kept));
+      size-same = ap size bytes ∙ omega (arith, buyer-length o);
+      cleared = λ r i. subst (λ s. Cleared o s r) (sym bytes) (buyer-cleared o kept r i);
       past-same = ap (drop (viewTaken c)) (view-is c x z) ∙ over-past (buyerView o) (c .view) (viewTaken c) (buyer-length o);
     }
 
 -- ---- two calls on accepted outlines that agree except in prices and locks
--- an accepted outline is shown where the view suffices
-suffices-passed : (c : Call) → checked (c .outline) ≡ passed → Suffices c → judged c ≡ passed
-unfolding judged
-suffices-passed c a h = rw (a, le-ltb _ _ h)
-
 module _ {c d : Call} (both : BuyersCalls c d) {t u : Told} {view view′ : List ℕ} (x : Answered buyerView c t view) (y : Answered buyerView d u view′) where
   -- from any two views that suffice the readers get identical bytes
   pub buyers-alike : Suffices c → Suffices d → SameBytes c d t u view view′
   buyers-alike h k =
-      let shown = x .told-judged ∙ suffices-passed c (both .accepted) h in
-      let also = y .told-judged ∙ suffices-passed d (both .also-accepted) k in
+      let told = view-shown c x (both .accepted) h in
+      let also = view-shown d y (both .also-accepted) k in
       record {
-        passes = shown;
-        also-passes = also;
+        told-passed = told;
+        also-passed = also;
         identical =
-            buyer-bytes c x (ap (λ (s : Told). s .number) shown)
+            buyer-bytes c x (ap (λ (s : Told). s .number) told)
             ∙ buyer-alike (c .outline) (d .outline) (both .agree)
             ∙ sym (buyer-bytes d y (ap (λ (s : Told). s .number) also));
       }

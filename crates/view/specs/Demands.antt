@@ -15,8 +15,8 @@ use Rattle.view.specs.Answer.{Call, viewTaken}
 abbrev pub viewTable : Call → List Row
 viewTable c = checkTable (c .outline) ++ (whole 9 (length (c .view) < viewTaken c) ∷ [])
 
--- demand 1: the view is written, and no row of the table holds; or exactly one refusal of the table, under its condition only, and then
--- the view is unchanged. There are no other numbers
+-- demand 1: no refusal, and no row of the table holds (what is then written: `HouseGiven`, `BuyerGiven`); or exactly one refusal of the
+-- table, under its condition only, and then the view is unchanged. There are no other numbers
 abbrev pub ShownOrRefused : Call → Told → List ℕ → Type 1
 ShownOrRefused c t view = Decided (viewTable c) t [] (c .view ∷ []) (view ∷ [])
 
@@ -35,19 +35,19 @@ pub record HouseGiven (c : Call) (view : List ℕ) : Type 0 where
 
 -- record r of what a buyer's reader gets: the links, the length and the plate of the outline's, price 0, and a field that is its plate
 -- alone, so that no lock stands there
-pub record Cleared (o shown : List ℕ) (r : ℕ) : Type 0 where
-  pub next-same : next shown r ≡ next o r
-  pub first-same : first shown r ≡ first o r
-  pub branch-same : branch shown r ≡ branch o r
-  pub price-none : price shown r ≡ 0
-  pub plate-same : plate shown r ≡ plate o r
-  pub lock-none : plateField shown r ≡ plate shown r
+pub record Cleared (o seen : List ℕ) (r : ℕ) : Type 0 where
+  pub next-same : next seen r ≡ next o r
+  pub first-same : first seen r ≡ first o r
+  pub branch-same : branch seen r ≡ branch o r
+  pub price-none : price seen r ≡ 0
+  pub plate-same : plate seen r ≡ plate o r
+  pub lock-none : plateField seen r ≡ plate seen r
 
 -- what a buyer's reader gets is an outline that the check accepts, with as many records, each of them cleared; and what is past it is
 -- unchanged
 pub record BuyerGiven (c : Call) (view : List ℕ) : Type 0 where
   pub accepted : checked (c .outline) ≡ passed
-  pub shown-accepted : checked (readerBytes c view) ≡ passed
+  pub also-accepted : checked (readerBytes c view) ≡ passed
   pub size-same : size (readerBytes c view) ≡ size (c .outline)
   pub cleared : (r : ℕ) → IsRecord (c .outline) r → Cleared (c .outline) (readerBytes c view) r
   pub past-same : bytesPast c view ≡ bytesPast c (c .view)
@@ -66,12 +66,12 @@ pub record BuyersCalls (c d : Call) : Type 0 where
   pub also-accepted : checked (d .outline) ≡ passed
   pub agree : AgreeButPricesAndLocks (c .outline) (d .outline)
 
--- a call's view suffices
+-- a call's view has the bytes that it needs
 abbrev pub Suffices : Call → Type 0
 Suffices c = viewTaken c ≤ length (c .view)
 
 -- neither call is refused, and both readers get the same bytes
 pub record SameBytes (c d : Call) (t u : Told) (view view′ : List ℕ) : Type 0 where
-  pub passes : t ≡ passed
-  pub also-passes : u ≡ passed
+  pub told-passed : t ≡ passed
+  pub also-passed : u ≡ passed
   pub identical : readerBytes c view ≡ readerBytes d view′

@@ -12,5 +12,6 @@ houseView o = o
 unfoldable pub buyerRecord : List ℕ → ℕ → List ℕ
 buyerRecord o r = recordBytes (next o r) (first o r) (branch o r) 0 (plate o r)
 
+-- every record so, one after the other
 unfoldable pub buyerView : List ℕ → List ℕ
 buyerView o = texts (buyerRecord o) (records o)

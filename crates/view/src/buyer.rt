@@ -44,7 +44,7 @@ fn write_cleared(o: &[u8], view: &mut [u8])
     }
 }
 
-// Writes the records with price 0 and without locks.
+// Refuses by the first row that holds; else writes the cleared records.
 pub fn view_buyer(outline: &[u8], view: &mut [u8]) -> Verdict
     ensures { λ v. ⌜ Answered buyerView (call (now (outline .entry)) (now (view .entry))) (told v) (now (view .exit)) ⌝ }
 {

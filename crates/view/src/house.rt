@@ -6,7 +6,7 @@ use super::judge::judge;
 use refusals::verdict::Verdict;
 use text::put_text;
 
-// Writes the records as they are.
+// Refuses by the first row that holds; else writes the outline's bytes, which `put_text` copies as it copies any.
 pub fn view_house(outline: &[u8], view: &mut [u8]) -> Verdict
     ensures { λ v. ⌜ Answered houseView (call (now (outline .entry)) (now (view .entry))) (told v) (now (view .exit)) ⌝ }
 {

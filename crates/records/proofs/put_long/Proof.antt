@@ -3,7 +3,7 @@ use Prim.Native.Nat.{_/_, _%_}
 use borrow.Author.Needs.{needs}
 use Rattle.outline.specs.Outline.{bytes}
 use Rattle.text.proofs.Writing.{Left, left-fits, left-goes, left-last}
-use Rattle.records.proofs.Fields.{halves-left}
+use Rattle.records.proofs.Writing.{halves-left}
 use Rattle.records.proofs.put_long.Statement.{statement}
 use Rattle.records.proofs.put_long.Tie as tie
 

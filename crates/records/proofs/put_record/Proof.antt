@@ -4,7 +4,7 @@ use mathlib.Core.List.{List, _++_}
 use borrow.Author.Needs.{needs}
 use Rattle.outline.specs.Outline.{bytes, recordBytes}
 use Rattle.text.proofs.Writing.{Left, left-fits, left-goes, left-last}
-use Rattle.records.proofs.Fields.{fields-left}
+use Rattle.records.proofs.Writing.{fields-left}
 use Rattle.records.proofs.put_record.Statement.{statement}
 use Rattle.records.proofs.put_record.Tie as tie
 

@@ -1,4 +1,4 @@
--- The fields of a record, written one after the other: what is left to write, at its beginning.
+-- A number of four bytes and a record, by the parts that are written one after the other: what is left at the beginning.
 use Prim.Native.Nat.{ℕ, _/_, _%_}
 use mathlib.Core.Path.{sym, subst}
 use mathlib.Core.List.{List, _++_}
