@@ -30,7 +30,8 @@
  *     outline    the tree, as an array of records
  *     marks      a set of taxa, as a number for each record: 1 for a taxon of the set, 0 for every other record
  *     sheet      the taxa of a set in record order, each with its plate, the quarters and the diversity that it adds
- *     view       an outline as a reader gets it: a house reader as it is, a buyer's reader without prices and locks
+ *     view       an outline as a reader gets it: as it is for a house reader, who may see prices and locks, and without these
+ *                for a buyer's reader, who may not
  *
  *
  * THE OUTLINE
@@ -200,12 +201,12 @@
  * all bytes of two views that were alike before the calls. Bytes beyond the records stay as they were, so hand on the first
  * PLATES_OUTLINE_LEN(N) only.
  *
- * A buyer's view is itself an outline that plates_check accepts, with the same links, lengths and plates. Every other function
- * takes it: plates_find finds each plate at the same record, plates_choose chooses every taxon, at count 0 too, and plates_write
- * writes it, with prices of 0, if no plate has 10 digits.
+ * A buyer's view is itself an outline that plates_check accepts, with the same links, lengths and plates. Every function that
+ * reads an outline takes it: plates_find finds each plate at the same record, plates_choose chooses every taxon, at count 0 too,
+ * and plates_write writes it, with prices of 0, if no plate has 10 digits.
  *
- * A refusal may still depend on a price, and so may its place: a price above 65,535 is refused (5) at its record. Nothing is
- * written to the view then.
+ * A refusal may still depend on a price, and so may its place: a price above 65,535 is out of range (5), and the place may be its
+ * record. Nothing is written to the view then.
  *
  *
  * WHAT THE CALLER HAS TO KEEP

@@ -11,8 +11,8 @@ impl Outline {
     ///
     /// Outlines that differ in prices and locks alone give the same, so that nothing of these can
     /// be told from it. It is an outline like any other: links, lengths and plates are kept, every
-    /// taxon fits page count 0, and [`to_newick`](Outline::to_newick) writes it if no plate has more
-    /// than 9 digits.
+    /// taxon is chosen, at page count 0 too, and [`to_newick`](Outline::to_newick) writes it if no
+    /// plate has more than 9 digits.
     ///
     /// ```
     /// use plates::Outline;
