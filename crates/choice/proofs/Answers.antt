@@ -16,12 +16,13 @@ use Rattle.refusals.specs.Refusals.{refusal, row}
 use Rattle.refusals.specs.declared.verdict.Refusal.{Refusal}
 use Rattle.refusals.proofs.Refusals.{both-pass, row-fails, refusal-not-zero}
 use Rattle.refusals.proofs.Placed.{Placed, row-placed, then-placed}
+use Rattle.refusals.proofs.Replies.{told-place}
 use Rattle.outline.specs.Answer.{sizeRows, recordRows, checked}
 use Rattle.outline.proofs.WellFormed.{rows-kept}
 use Rattle.outline.proofs.Placed.{sizes-placed, records-placed}
 use Rattle.diversity.specs.Search.{noneFits}
 use Rattle.laws.proofs.Optimum.{none-exactly}
-use Rattle.choice.specs.Answer.{Call, Answered, refused, told, mostCount, workTaken, tooShort, judged, isSelected, selected, reply}
+use Rattle.choice.specs.Answer.{Call, Answered, told, mostCount, workTaken, tooShort, judged, isSelected, figures, reply}
 use Rattle.choice.specs.Answer.{curveOf, marksAfter, curveAfter, workAfter}
 use Rattle.choice.specs.Inner.{Solvable, Solved}
 use Rattle.choice.specs.declared.answer.Answer.{Answer}
@@ -82,19 +83,6 @@ module _ (c : Call) where
         work-long = ltb-false _ _ rest.1;
       }
 
-  -- where the number told is 0, it is a selection
-  pub told-selection : (reply c).number ≡ 0 → isSelected c ≡ true
-  unfolding reply
-  told-selection z = go (isSelected c) refl z
-    where
-      go : (b : Bool) → isSelected c ≡ b → (if b then selected c else refused (judged c)).number ≡ 0 → b ≡ true
-      go true e z = refl
-      go false e z = absurd (eqb-false _ _ e z)
-
-  pub selection-told : isSelected c ≡ true → reply c ≡ selected c
-  unfolding reply
-  selection-told e = rw e
-
   -- the call with the first n numbers of work
   abbrev pub withWork : ℕ → Call
   withWork n = record { outline = c.outline; count = c.count; way = c.way; marks = c.marks; curve = c.curve; work = take n c.work }
@@ -121,16 +109,16 @@ module _ (c : Call) where
     -- a selection
     pub solved-answered : {answer : Answer} {marks curve work : List ℕ} → Solved (withWork n) answer marks curve work
         → Answered c (told answer) marks curve (work ++ drop n c.work)
-    unfolding reply marksAfter curveAfter workAfter selected curveOf over
+    unfolding reply figures marksAfter curveAfter workAfter curveOf over
     solved-answered s = record {
-      told-reply = rw e s.told-selected;
+      told-reply = rw e s.told-granted;
       marks-written = rw e s.marks-written;
       curve-written = rw e s.curve-written;
       work-cleared = rw (e, s.work-cleared, part-long, ← taken, length-replicate);
     }
 
   -- a refusal
-  pub refused-answered : (e : Refusal) → refusal e ≡ judged c → Answered c (refused (refusal e)) c.marks c.curve c.work
+  pub refused-answered : (e : Refusal) → refusal e ≡ judged c → Answered c (told (Answer.Refused e)) c.marks c.curve c.work
   unfolding reply marksAfter curveAfter workAfter
   refused-answered e h =
       let number : isSelected c ≡ false = rw (← h) (refusal-not-zero e) in
@@ -155,9 +143,5 @@ module _ (c : Call) where
       (λ _. row-placed mostRecords 12 (noneFits c.outline c.way c.count) (omega arith))))))
 
   pub reply-place-most : (reply c).place ≤ mostRecords
-  unfolding reply selected
-  reply-place-most = go (isSelected c)
-    where
-      go : (b : Bool) → (if b then selected c else refused (judged c)).place ≤ mostRecords
-      go true = omega arith
-      go false = judged-placed.place-most
+  unfolding reply
+  reply-place-most = told-place _ _ _ judged-placed.place-most

@@ -8,13 +8,13 @@ use mathlib.Core.List.{List, [], ◌∷◌}
 use native.Mathlib.Omega.{arith}
 use lib.Dec.{leb}
 use lib.Seq.{take_at}
-use borrow.Author.Tests.{eqb-true, ne_eqb, leb-true, leb-false}
+use borrow.Author.Tests.{eq-eqb, ne_eqb, leb-true, leb-false}
 use Rattle.lists.specs.Lists.{over}
-use Rattle.refusals.specs.Refusals.{Ruling, refusal}
+use Rattle.refusals.specs.Reply.{Reply, granted}
 use Rattle.refusals.specs.Table.{Gives}
-use Rattle.refusals.proofs.Refusals.{refusal-numbered, refusal-determined}
+use Rattle.refusals.proofs.Replies.{told-passed, decided, granted-apart, refused-determined}
 use Rattle.refusals.proofs.Tests.{Decides, decides-less, decides-either}
-use Rattle.refusals.proofs.Tables.{gives-then, gives-passed, gives-whole, gives-way}
+use Rattle.refusals.proofs.Tables.{gives-then, gives-whole, gives-way}
 use Rattle.outline.specs.Outline.{size, isTaxon, locked}
 use Rattle.outline.proofs.Demands.{sizes-give, records-give}
 use Rattle.diversity.specs.Diversity.{chosen, cost}
@@ -30,30 +30,26 @@ use Rattle.laws.proofs.Spare.{spare-left}
 use Rattle.laws.proofs.Subtrees.{diversity-subtree}
 use Rattle.laws.proofs.Headings.{cost-opened}
 use Rattle.laws.proofs.Free.{free-chosen}
-use Rattle.choice.specs.Answer.{Call, Reply, Answered, rulingOf, othersOf, refused, told, mostCount, tooShort, judged, isSelected}
-use Rattle.choice.specs.Answer.{bestSet, selected, reply, curveOf, diversityAt, costAt, marksAfter, curveAfter, workAfter}
+use Rattle.choice.specs.Answer.{Call, Figures, Answered, numbersOf, told, mostCount, tooShort, judged, isSelected}
+use Rattle.choice.specs.Answer.{bestSet, figures, reply, curveOf, diversityAt, costAt, marksAfter, curveAfter, workAfter}
 use Rattle.choice.specs.Demands.{chooseTable, SelectedOrRefused, markedSet, TrueOfMarks, Shown, some-set, no-set, TrueColumn, FoundBySearch}
 use Rattle.choice.specs.declared.answer.Answer.{Answer}
-use Rattle.choice.proofs.Answers.{way-known, selected-solvable, told-selection, selection-told}
+use Rattle.choice.proofs.Answers.{way-known, selected-solvable}
 use Rattle.choice.proofs.Solving.{curve-diversity, curve-cost}
 
 -- ---- what the numbers say of the answer itself
 -- a selection tells 0, and its numbers are the answer's; a refusal tells its own number and place
 pub told-determined : (a b : Answer) → told a ≡ told b → a ≡ b
 told-determined (Answer.Selected d k t s) (Answer.Selected e l u v) h =
-    let x : d ≡ e = ap (λ (r : Reply). r.diversity) h in
-    let y : k ≡ l = ap (λ (r : Reply). r.cost) h in
-    let z : t ≡ u = ap (λ (r : Reply). r.taxa) h in
-    let w : s ≡ v = ap (λ (r : Reply). r.spare) h in
+    let f : (told (Answer.Selected d k t s)).figures ≡ (told (Answer.Selected e l u v)).figures = ap (λ (r : Reply Figures). r.figures) h in
+    let x : d ≡ e = ap (λ (g : Figures). g.diversity) f in
+    let y : k ≡ l = ap (λ (g : Figures). g.cost) f in
+    let z : t ≡ u = ap (λ (g : Figures). g.taxa) f in
+    let w : s ≡ v = ap (λ (g : Figures). g.spare) f in
     rw (x, y, z, w)
-told-determined (Answer.Selected d k t s) (Answer.Refused e) h =
-    let z : 0 ≡ (refusal e).number = ap (λ (r : Reply). r.number) h in
-    absurd (omega (arith, refusal-numbered e))
-told-determined (Answer.Refused d) (Answer.Selected e l u v) h =
-    let z : (refusal d).number ≡ 0 = ap (λ (r : Reply). r.number) h in
-    absurd (omega (arith, refusal-numbered d))
-told-determined (Answer.Refused d) (Answer.Refused e) h =
-    ap Answer.Refused (refusal-determined d e (ap rulingOf h))
+told-determined (Answer.Selected d k t s) (Answer.Refused e) h = absurd (granted-apart e h)
+told-determined (Answer.Refused d) (Answer.Selected e l u v) h = absurd (granted-apart d (sym h))
+told-determined (Answer.Refused d) (Answer.Refused e) h = ap Answer.Refused (refused-determined d e h)
 
 -- the search ends with nothing in hand exactly if no set fits
 none-decided : (o : List ℕ) (way b : ℕ) → Decides (NoneFits o b) (noneFits o way b)
@@ -71,40 +67,25 @@ module _ (c : Call) where
       (gives-then (gives-whole 8 (decides-either (decides-less _ _) (decides-either (decides-less _ _) (decides-less _ _))))
       (gives-whole 11 (none-decided c.outline c.way c.count))))))
 
-  reply-told : rulingOf (reply c) ≡ judged c
-  unfolding reply selected
-  reply-told = go (isSelected c) refl
-    where
-      go : (b : Bool) → isSelected c ≡ b → rulingOf (if b then selected c else refused (judged c)) ≡ judged c
-      go true e = sym (gives-passed judged-gives (eqb-true _ _ e))
-      go false e = refl
-
-  refused-others : 1 ≤ (judged c).number → othersOf (reply c) ≡ 0 ∷ 0 ∷ 0 ∷ 0 ∷ []
-  unfolding reply
-  refused-others h = rw (ne_eqb (judged c).number 0 (λ z. omega arith))
-
-module _ (c : Call) {r : Reply} {marks curve work : List ℕ} (x : Answered c r marks curve work) where
+module _ (c : Call) {r : Reply Figures} {marks curve work : List ℕ} (x : Answered c r marks curve work) where
   -- demand 1: a selection or exactly one refusal of the table, under its condition only; a refusal changes no byte of a buffer
   pub demand-1 : SelectedOrRefused c r marks curve work
-  unfolding marksAfter curveAfter workAfter
+  unfolding reply marksAfter curveAfter workAfter
   demand-1 =
-      let is-told : rulingOf r ≡ judged c = ap rulingOf x.told-reply ∙ reply-told c in
-      let number : r.number ≡ (judged c).number = ap (λ (t : Ruling). t.number) is-told in
-      record {
-        given = rw is-told (judged-gives c);
-        others-zero = λ h. ap othersOf x.told-reply ∙ refused-others c (omega arith);
-        unchanged = λ h.
-            let off : isSelected c ≡ false = ne_eqb (judged c).number 0 (λ z. omega arith) in
-            rw (x.marks-written, x.curve-written, x.work-cleared, off);
-      }
+      decided _ _ _ numbersOf refl (judged-gives c) x.told-reply
+      (λ h.
+          let off : isSelected c ≡ false = ne_eqb (judged c).number 0 (λ z. omega arith) in
+          rw (x.marks-written, x.curve-written, x.work-cleared, off))
 
   -- where the number told is 0, it is a selection
   module _ (z : r.number ≡ 0) where
-    selected-row : isSelected c ≡ true
-    selected-row = told-selection c (sym (ap (λ (r : Reply). r.number) x.told-reply) ∙ z)
+    pub selected-row : isSelected c ≡ true
+    unfolding reply
+    selected-row = eq-eqb _ _ (told-passed _ _ _ (sym (ap (λ (r : Reply Figures). r.number) x.told-reply) ∙ z))
 
-    told-is : r ≡ selected c
-    told-is = x.told-reply ∙ selection-told c selected-row
+    told-is : r ≡ granted (figures c)
+    unfolding reply
+    told-is = x.told-reply ∙ rw selected-row
 
     -- the locked taxa fit by themselves
     fit : cost c.outline (lockedSet c.outline) ≤ c.count
@@ -120,7 +101,7 @@ module _ (c : Call) {r : Reply} {marks curve work : List ℕ} (x : Answered c r 
 
     -- demand 2: the numbers told are those of the marked set
     pub demand-2 : TrueOfMarks c r marks
-    unfolding selected
+    unfolding figures
     demand-2 = record {
       way-known = way-known c selected-row;
       diversity-true = rw (told-is, marked-is);
@@ -129,11 +110,11 @@ module _ (c : Call) {r : Reply} {marks curve work : List ℕ} (x : Answered c r 
     }
 
     -- and in the paper's words: the length of the smallest subtree that connects the marked taxa, rooted with the root
-    pub demand-2-subtree : SubtreeLength c.outline (Ends c.outline c.way (markedSet c marks)) r.diversity
+    pub demand-2-subtree : SubtreeLength c.outline (Ends c.outline c.way (markedSet c marks)) r.figures.diversity
     demand-2-subtree = rw demand-2.diversity-true (diversity-subtree _ (selected-solvable c selected-row).formed.linked _ _)
 
     -- and in the request's words: the marked taxa's prices, and the price of each group that has one of them below it
-    pub demand-2-headings : r.cost ≡ pricesChosen c.outline (markedSet c marks) + headingsOpened c.outline (markedSet c marks)
+    pub demand-2-headings : r.figures.cost ≡ pricesChosen c.outline (markedSet c marks) + headingsOpened c.outline (markedSet c marks)
     demand-2-headings = demand-2.cost-true ∙ rw marked-is (cost-opened _ _ (optimum-set c.outline c.way c.count fit))
 
     column-diversity : (b : ℕ) → b ≤ c.count → diversityAt curve b ≡ bestDiversity c.outline c.way b
@@ -171,7 +152,7 @@ module _ (c : Call) {r : Reply} {marks curve work : List ℕ} (x : Answered c r 
 
     -- demand 3: exactly what the exhaustive search finds
     pub demand-3 : FoundBySearch c r marks curve
-    unfolding selected
+    unfolding figures
     demand-3 =
         let o = c.outline in
         let n = c.count in
@@ -191,8 +172,8 @@ module _ (c : Call) {r : Reply} {marks curve work : List ℕ} (x : Answered c r 
     locked-marked = (held-each c.outline (markedSet c marks)).0 demand-3.marked-fits.locked-held
 
     -- the spare is the page count minus the cost
-    pub spare-is-left : r.spare ≡ c.count - r.cost
-    unfolding selected
+    pub spare-is-left : r.figures.spare ≡ c.count - r.figures.cost
+    unfolding figures
     spare-is-left = rw (told-is, ← shown-cost c.outline c.way c.count fit) (spare-left c.outline c.way c.count fit)
 
     -- a free taxon is always marked where the headings above it are free too

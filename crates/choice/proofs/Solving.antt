@@ -27,7 +27,7 @@ use Rattle.rows.proofs.TopRow.{Tells, top-row}
 use Rattle.cells.specs.Cells.{unit, lift, seen, view, codeOf, cell}
 use Rattle.table.specs.Table.{Filled}
 use Rattle.cells.specs.declared.candidate.Candidate.{Candidate}
-use Rattle.choice.specs.Answer.{Call, Reply, mostCount, bestSet, selected, columns, curveOf, diversityAt, costAt}
+use Rattle.choice.specs.Answer.{Call, told, mostCount, bestSet, figures, columns, curveOf, diversityAt, costAt}
 use Rattle.choice.specs.Inner.{topDiversity, topCost, Drawable, level, Solvable, Solved}
 use Rattle.choice.specs.declared.answer.Answer.{Answer}
 use Rattle.choice.proofs.Columns.{columns-long, column-diversity, column-cost, columns-ext, alike-ext}
@@ -105,12 +105,8 @@ set-of score set {v} e = go (eqb score 0) e
     go true e = let z : ◌≡◌ {A = ℕ} 0 1 = cc in absurd (omega arith)
     go false e = ap codeOf e
 
--- a selection, by its numbers
-abbrev selection : ℕ → ℕ → ℕ → ℕ → Reply
-selection d k t l = record { number = 0; place = 0; diversity = d; cost = k; taxa = t; spare = l }
-
-reply-path : {d e k m t u l n : ℕ} → d ≡ e → k ≡ m → t ≡ u → l ≡ n → selection d k t l ≡ selection e m u n
-reply-path p q r s = rw (p, q, r, s)
+selected-path : {d e k m t u l n : ℕ} → d ≡ e → k ≡ m → t ≡ u → l ≡ n → told (Answer.Selected d k t l) ≡ told (Answer.Selected e m u n)
+selected-path p q r s = rw (p, q, r, s)
 
 module _ (c : Call) (s : Solvable c) (table : List ℕ) (filled : Filled c.outline c.way (c.count + 1) table) where
   -- the top row is the curve
@@ -154,14 +150,14 @@ module _ (c : Call) (s : Solvable c) (table : List ℕ) (filled : Filled c.outli
       → taxa ≡ chosenTaxa c.outline marks
       → left ≡ columnsAlike (level curve (diversityAt curve c.count)) c.count
       → Solved c (Answer.Selected (diversityAt curve c.count) (costAt curve c.count) taxa left) marks curve work
-  unfolding selected
+  unfolding figures
   solved best {marks} {curve} is-best m held k w t l =
       let marked : marks ≡ over (bestSet c) c.marks = m ∙ ap (λ x. over x c.marks) (best-marks best is-best) in
       let drawn : curve ≡ over (curveOf c) c.curve = rw held at k ∙ ap (λ x. over x c.curve) top-curve in
       let fit = s.locked-fit in
       record {
-        told-selected =
-            reply-path (ap (λ x. diversityAt x c.count) drawn ∙ curve-diversity c c.curve c.count (omega arith) ∙ shown-diversity _ _ _ fit)
+        told-granted =
+            selected-path (ap (λ x. diversityAt x c.count) drawn ∙ curve-diversity c c.curve c.count (omega arith) ∙ shown-diversity _ _ _ fit)
             (ap (λ x. costAt x c.count) drawn ∙ curve-cost c c.curve c.count (omega arith) ∙ shown-cost _ _ _ fit)
             (t ∙ ap (chosenTaxa c.outline) marked ∙ taxa-over c.outline (bestSet c) c.marks (optimum-set _ _ _ fit))
             (l ∙ ap (λ x. columnsAlike (level x (diversityAt x c.count)) c.count) drawn ∙ curve-spare c c.curve s.low);

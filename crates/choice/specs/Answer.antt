@@ -1,7 +1,8 @@
 -- What a call of `choose` is answered, and what it leaves in the buffers that it was lent.
-use Rattle.std.specs.Prelude.{if◌then◌else◌, ℕ, ◌+◌, ◌*◌, ◌≡◌, Bool, ◌||◌, ◌&&◌, not, List, [], ◌∷◌, length, get_or, replicate, eqb, ltb}
+use Rattle.std.specs.Prelude.{ℕ, ◌+◌, ◌*◌, ◌≡◌, Bool, ◌||◌, ◌&&◌, not, List, [], ◌∷◌, length, get_or, replicate, eqb, ltb}
 use Rattle.lists.specs.Lists.{from}
-use Rattle.refusals.specs.Refusals.{Ruling, ruling, refusal, row, ◌▸◌, after}
+use Rattle.refusals.specs.Refusals.{Ruling, refusal, row, ◌▸◌, after}
+use Rattle.refusals.specs.Reply.{Reply, granted, refused, replied}
 use Rattle.outline.specs.Outline.{size}
 use Rattle.outline.specs.Answer.{sizeRows, recordRows}
 use Rattle.diversity.specs.Diversity.{diversity, cost, chosenTaxa}
@@ -21,30 +22,24 @@ abbrev pub call : List ℕ → ℕ → ℕ → List ℕ → List ℕ → List �
 call outline count way marks curve work =
     record { outline = outline; count = count; way = way; marks = marks; curve = curve; work = work }
 
--- the six numbers that a call is told
-pub record Reply : Type 0 where
-  pub number : ℕ
-  pub place : ℕ
+-- what a selection tells: diversity, cost, number of taxa, and spare
+pub record Figures : Type 0 where
   pub diversity : ℕ
   pub cost : ℕ
   pub taxa : ℕ
   pub spare : ℕ
 
--- its number and place, and the others
-abbrev pub rulingOf : Reply → Ruling
-rulingOf r = ruling r.number r.place
+-- on a refusal they are 0
+abbrev pub noFigures : Figures
+noFigures = record { diversity = 0; cost = 0; taxa = 0; spare = 0 }
 
-abbrev pub othersOf : Reply → List ℕ
-othersOf r = r.diversity ∷ r.cost ∷ r.taxa ∷ r.spare ∷ []
-
--- a refusal: diversity, cost, number of taxa and spare are then 0
-abbrev pub refused : Ruling → Reply
-refused t = record { number = t.number; place = t.place; diversity = 0; cost = 0; taxa = 0; spare = 0 }
+abbrev pub numbersOf : Figures → List ℕ
+numbersOf f = f.diversity ∷ f.cost ∷ f.taxa ∷ f.spare ∷ []
 
 -- the numbers of each answer
-abbrev pub told : Answer → Reply
-told (Answer.Selected d c t s) = record { number = 0; place = 0; diversity = d; cost = c; taxa = t; spare = s }
-told (Answer.Refused e) = refused (refusal e)
+abbrev pub told : Answer → Reply Figures
+told (Answer.Selected d c t s) = granted (record { diversity = d; cost = c; taxa = t; spare = s })
+told (Answer.Refused e) = refused noFigures (refusal e)
 
 -- page counts go up to this
 abbrev pub mostCount : ℕ
@@ -84,20 +79,18 @@ isSelected c = eqb (judged c).number 0
 abbrev pub bestSet : Call → List ℕ
 bestSet c = optimum c.outline c.way c.count
 
--- a selection gives 0, place 0, diversity, cost, number of taxa, and spare
-unfoldable pub selected : Call → Reply
-selected c = record {
-  number = 0;
-  place = 0;
+-- diversity, cost and number of taxa of that set, and the spare
+unfoldable pub figures : Call → Figures
+figures c = record {
   diversity = diversity c.outline c.way (bestSet c);
   cost = cost c.outline (bestSet c);
   taxa = chosenTaxa c.outline (bestSet c);
   spare = spare c.outline c.way c.count;
 }
 
--- what a call is told
-unfoldable pub reply : Call → Reply
-reply c = if isSelected c then selected c else refused (judged c)
+-- what a call is told: a selection gives 0, place 0, and its figures
+unfoldable pub reply : Call → Reply Figures
+reply c = replied noFigures (judged c) (figures c)
 
 -- for each column its diversity, then its cost
 unfoldable pub columns : (ℕ → ℕ) → (ℕ → ℕ) → List ℕ → List ℕ
@@ -126,7 +119,7 @@ unfoldable pub workAfter : Call → List ℕ
 workAfter c = after (judged c) (replicate (workTaken c.outline c.count) 0) c.work
 
 -- what a call ensures, of the numbers that it is told and of the buffers as it leaves them
-pub record Answered (c : Call) (r : Reply) (marks curve work : List ℕ) : Type 0 where
+pub record Answered (c : Call) (r : Reply Figures) (marks curve work : List ℕ) : Type 0 where
   pub told-reply : r ≡ reply c
   pub marks-written : marks ≡ marksAfter c
   pub curve-written : curve ≡ curveAfter c

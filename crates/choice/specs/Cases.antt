@@ -3,12 +3,13 @@
 use Rattle.std.specs.Prelude.{ℕ, ◌≡◌, refl, List, [], ◌∷◌, ◌++◌, replicate}
 use Rattle.lists.specs.Lists.{from, anywhere, total, lowest}
 use Rattle.refusals.specs.Refusals.{ruling}
+use Rattle.refusals.specs.Reply.{refused}
 use Rattle.outline.specs.Outline.{short, long, records, locked, bytes, recordBytes}
 use Rattle.outline.specs.Answer.{sizeRows, recordRows}
 use Rattle.diversity.specs.Diversity.{chain, clade, chosen, within, elsewhere, rooted, unrooted, diversity, cost, holdsLocked}
 use Rattle.diversity.specs.Search.{subsets, leads, better, fits, turn, exhaustiveSearch, isHolding, setOf, optimum, noneFits, blankCost}
 use Rattle.diversity.specs.Search.{bestDiversity, leastCost}
-use Rattle.choice.specs.Answer.{Call, call, refused, tooShort, judged, reply, columns, curveOf}
+use Rattle.choice.specs.Answer.{Call, call, noFigures, tooShort, judged, reply, columns, curveOf}
 use Rattle.outline.specs.Rules.{badField, naming, named, badLink, taxaIn, taxa, hasPlate, isDuplicate}
 
 -- 2,147,483,659 is the lock and plate 11
@@ -25,7 +26,7 @@ abbrev rootedCall : ℕ → Call
 rootedCall count = call treeA count 0 (replicate 5 9) (replicate 10 9) (replicate 140 9)
 
 -- count 2: plate 11 costs 3, so that no set fits
-pub dear-lock-refused : reply (rootedCall 2) ≡ refused (ruling 12 0)
+pub dear-lock-refused : reply (rootedCall 2) ≡ refused noFigures (ruling 12 0)
 unfolding
     from anywhere total lowest short long records badField naming named badLink taxaIn taxa hasPlate isDuplicate sizeRows recordRows
     chain clade chosen within elsewhere rooted unrooted diversity cost locked holdsLocked subsets leads better fits turn

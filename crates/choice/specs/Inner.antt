@@ -1,6 +1,7 @@
 -- What the functions behind `choose` speak of.
 use Rattle.std.specs.Prelude.{if◌then◌else◌, ℕ, ◌+◌, ◌*◌, ◌≤◌, ◌≡◌, Bool, ◌&&◌, not, List, eqb, length, replicate}
 use Rattle.lists.specs.Lists.{over}
+use Rattle.refusals.specs.Reply.{granted}
 use Rattle.outline.specs.Outline.{size}
 use Rattle.outline.specs.WellFormed.{WellFormed}
 use Rattle.diversity.specs.Diversity.{cost}
@@ -8,7 +9,7 @@ use Rattle.diversity.specs.Search.{blankCost}
 use Rattle.laws.specs.Candidate.{Cand}
 use Rattle.laws.specs.Locks.{lockedSet}
 use Rattle.cells.specs.Cells.{cell, lockedOf, diversityOf, costOf}
-use Rattle.choice.specs.Answer.{Call, told, mostCount, marksTaken, curveTaken, workTaken, bestSet, selected, curveOf, diversityAt, costAt}
+use Rattle.choice.specs.Answer.{Call, told, mostCount, marksTaken, curveTaken, workTaken, bestSet, figures, curveOf, diversityAt, costAt}
 use Rattle.choice.specs.declared.answer.Answer.{Answer}
 use Rattle.choice.specs.declared.curve.Column.{Column}
 use Rattle.outline.specs.Rules.{mostRecords}
@@ -57,7 +58,7 @@ pub record Solvable (c : Call) : Type 0 where
 
 -- what it ensures: the selection, and the buffers written over, work all 0
 pub record Solved (c : Call) (answer : Answer) (marks curve work : List ℕ) : Type 0 where
-  pub told-selected : told answer ≡ selected c
+  pub told-granted : told answer ≡ granted (figures c)
   pub marks-written : marks ≡ over (bestSet c) c.marks
   pub curve-written : curve ≡ over (curveOf c) c.curve
   pub work-cleared : work ≡ replicate (length c.work) 0

@@ -21,7 +21,7 @@ use Rattle.laws.proofs.Sums.{total-ext, total-zero}
 use Rattle.laws.proofs.Headings.{free-headings}
 use Rattle.laws.proofs.Locks.{unlocked-fits, unlocked-cost}
 use Rattle.laws.proofs.Optimum.{search-exactly}
-use Rattle.choice.specs.Answer.{Call, tooShort, judged, selected, reply, curveOf, marksAfter, curveAfter, workAfter}
+use Rattle.choice.specs.Answer.{Call, tooShort, judged, figures, reply, curveOf, marksAfter, curveAfter, workAfter}
 use Rattle.choice.proofs.Columns.{columns-ext}
 use Rattle.earlier.specs.Earlier as earlier
 use Rattle.earlier.specs.Before.{Unlocked, ChoosesAsBefore, AsBefore}
@@ -136,9 +136,9 @@ module _ (e : earlier.Edition) (c : Call) (same : SameRules e c.outline) where
   set-same : (way b : ℕ) → optimum c.outline way b ≡ earlier.optimum e c.outline way b
   set-same = optimum-same e c.outline same
 
-  selected-same : selected c ≡ earlier.selected e c
-  unfolding selected earlier.selected
-  selected-same =
+  figures-same : figures c ≡ earlier.figures e c
+  unfolding figures earlier.figures
+  figures-same =
       rw (set-same c.way c.count, same.costs (earlier.bestSet e c), spare-same e c.outline same c.way c.count) refl
 
   curve-same : curveOf c ≡ earlier.curveOf e c
@@ -150,7 +150,7 @@ module _ (e : earlier.Edition) (c : Call) (same : SameRules e c.outline) where
   chooses-same : ChoosesAsBefore e c
   unfolding reply earlier.reply marksAfter earlier.marksAfter curveAfter earlier.curveAfter workAfter earlier.workAfter
   chooses-same = record {
-    told = rw (judged-same, selected-same) refl;
+    told = rw (judged-same, figures-same) refl;
     marks = rw (judged-same, set-same c.way c.count) refl;
     curve = rw (judged-same, curve-same) refl;
     work = rw judged-same refl;

@@ -6,12 +6,13 @@ use Rattle.std.specs.Prelude.{if◌then◌else◌, ℕ, zero, suc, ◌+◌, ◌*
 use mathlib.Core.List.{List, [], foldl}
 use Rattle.lists.specs.Lists.{from, anywhere, lowest}
 use Rattle.refusals.specs.Refusals.{Ruling, ◌▸◌, row, rowAt, after}
+use Rattle.refusals.specs.Reply.{Reply, replied}
 use Rattle.outline.specs.Outline.{size, records, branch, price, plateField, isTaxon}
 use Rattle.outline.specs.Answer.{sizeRows}
 use Rattle.diversity.specs.Diversity.{diversity, cost as costWithHeadings, chosenTaxa}
 use Rattle.diversity.specs.Headings.{pricesChosen}
 use Rattle.diversity.specs.Search.{subsets, leads, Incumbent, nothing, holding, setOf}
-use Rattle.choice.specs.Answer.{Call, Reply, refused, mostCount, workTaken, tooShort, columns}
+use Rattle.choice.specs.Answer.{Call, Figures, noFigures, mostCount, workTaken, tooShort, columns}
 use Rattle.outline.specs.Rules.{badLink, taxa, mostTaxa}
 
 -- bytes 12 to 15: the plate's number
@@ -126,19 +127,13 @@ module _ (e : Edition) where
       ▸ recordRows c.outline
       ▸ row 9 (tooShort c)
 
-  -- no row holds: the answer is a selection
-  abbrev pub isSelected : Call → Bool
-  isSelected c = eqb (judged c).number 0
-
   -- the exhaustive search's set at the page count
   abbrev pub bestSet : Call → List ℕ
   bestSet c = optimum c.outline c.way c.count
 
-  -- a selection gives 0, place 0, diversity, cost, number of taxa, and spare
-  unfoldable pub selected : Call → Reply
-  selected c = record {
-    number = 0;
-    place = 0;
+  -- diversity, cost and number of taxa of that set, and the spare
+  unfoldable pub figures : Call → Figures
+  figures c = record {
     diversity = diversity c.outline c.way (bestSet c);
     cost = e.cost c.outline (bestSet c);
     taxa = chosenTaxa c.outline (bestSet c);
@@ -146,8 +141,8 @@ module _ (e : Edition) where
   }
 
   -- what a call is told
-  unfoldable pub reply : Call → Reply
-  reply c = if isSelected c then selected c else refused (judged c)
+  unfoldable pub reply : Call → Reply Figures
+  reply c = replied noFigures (judged c) (figures c)
 
   -- the columns 0 to the page count: the best diversity, then its cost
   unfoldable pub curveOf : Call → List ℕ

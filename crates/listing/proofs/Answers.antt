@@ -9,16 +9,19 @@ use lib.ListN.{length, get_or, take, drop, replicate, length-drop, length-replic
 use lib.Seq.{take_all, take-length}
 use Rattle.lists.specs.Lists.{one, from, over}
 use Rattle.lists.proofs.Buffers.{over-taken}
-use Rattle.refusals.specs.Refusals.{Ruling, refusal}
+use borrow.Author.Tests.{eq-eqb}
+use Rattle.refusals.specs.Refusals.{Ruling}
+use Rattle.refusals.specs.Reply.{Reply, granted, refused}
 use Rattle.refusals.specs.declared.verdict.Refusal.{Refusal}
-use Rattle.refusals.proofs.Refusals.{refusal-numbered}
+use Rattle.refusals.proofs.Replies.{granted-told, told-passed, granted-apart}
 use Rattle.outline.specs.Outline.{short, size, records}
 use Rattle.diversity.specs.Diversity.{chosen, chosenTaxa}
 use Rattle.diversity.specs.Behind.{IsSet}
 use Rattle.laws.proofs.Optimum.{optimum-set}
 use Rattle.laws.proofs.Prefixes.{taxa-step, taxa-nothing}
-use Rattle.choice.specs.Answer.{Call, Reply, refused, judged, isSelected, bestSet, selected, reply, curveOf, marksAfter, curveAfter}
-use Rattle.choice.proofs.Answers.{way-known, selected-accepted, selected-solvable, told-selection, selection-told}
+use Rattle.choice.specs.Answer.{Call, Figures, noFigures, told, judged, isSelected, bestSet, figures, reply, curveOf, marksAfter, curveAfter}
+use Rattle.choice.specs.declared.answer.Answer.{Answer}
+use Rattle.choice.proofs.Answers.{way-known, selected-accepted, selected-solvable}
 use Rattle.choice.proofs.Solving.{curve-diversity, curve-cost}
 use Rattle.sheet.specs.Answer as sheets
 use Rattle.sheet.specs.Sheet.{rowOf, rowsOf}
@@ -42,16 +45,16 @@ call-made bytes {o} {count} {way} e n w =
     rw (e ∙ whole, n, w)
 
 -- a refusal
-pub refused-text : (c : Call) (t : Ruling) → 1 ≤ t.number → refused t ≡ reply c → refusalText t ≡ answerText c
-unfolding selected reply refusalText answerText
+pub refused-text : (c : Call) (t : Ruling) → 1 ≤ t.number → refused noFigures t ≡ reply c → refusalText t ≡ answerText c
+unfolding reply refusalText answerText
 refused-text c t h e = go (isSelected c) refl
   where
     go : (b : Bool) → isSelected c ≡ b → refusalText t ≡ answerText c
-    go true s = let z : t.number ≡ 0 = ap (λ (r : Reply). r.number) (rw s at e) in absurd (omega arith)
+    go true s = let z : t.number ≡ 0 = ap (λ (r : Reply Figures). r.number) (rw s at e) in absurd (omega arith)
     go false s =
-        let f : refused t ≡ refused (judged c) = rw s at e in
-        let n : t.number ≡ (judged c).number = ap (λ (r : Reply). r.number) f in
-        let p : t.place ≡ (judged c).place = ap (λ (r : Reply). r.place) f in
+        let f : refused noFigures t ≡ refused noFigures (judged c) = rw s at e in
+        let n : t.number ≡ (judged c).number = ap (λ (r : Reply Figures). r.number) f in
+        let p : t.place ≡ (judged c).place = ap (λ (r : Reply Figures). r.place) f in
         rw (s, n, p)
 
 -- the lines of the columns, from the curve
@@ -106,29 +109,26 @@ module _ (o : List ℕ) (way : ℕ) (s lent : List ℕ) where
       ap (λ t. taxaText sheet (chosenTaxa o t)) (sym all) ∙ lines-so-far (size o) (omega arith)
 
 -- a call of `sheet` that is told 0 has the sheet's lines, and the sums of the total
-module _ (c : sheets.Call) {r : sheets.Reply} {lent : List ℕ} (x : sheets.Answered c r lent) (passes : (sheets.judged c).number ≡ 0) where
-  told-listing : r ≡ sheets.listing c
+module _ (c : sheets.Call) {r : Reply sheets.Figures} {lent : List ℕ} (x : sheets.Answered c r lent) (passes : (sheets.judged c).number ≡ 0) where
+  told-listing : r ≡ granted (sheets.figures c)
   unfolding sheets.reply
-  told-listing = x.told-reply ∙ rw passes
+  told-listing = x.told-reply ∙ granted-told _ _ _ passes
 
-  pub sheet-lines : sheetText c.outline c.way (sheets.markedSet c) ≡ taxaText lent r.rows ++ labelled totalWord (r.quarters ∷ r.diversity ∷ [])
-  unfolding sheetText totalLine sheets.listing sheets.sheetAfter
+  pub sheet-lines : sheetText c.outline c.way (sheets.markedSet c)
+      ≡ taxaText lent r.figures.rows ++ labelled totalWord (r.figures.quarters ∷ r.figures.diversity ∷ [])
+  unfolding sheetText totalLine sheets.figures sheets.sheetAfter
   sheet-lines =
       let written : lent ≡ over (rowsOf c.outline c.way (sheets.markedSet c)) c.sheet = x.sheet-written ∙ rw passes in
       rw (told-listing, written, taxa-text c.outline c.way (sheets.markedSet c) c.sheet (set-long c passes))
 
-  pub rows-inside : 3 * r.rows ≤ length c.sheet
-  unfolding sheets.listing
+  pub rows-inside : 3 * r.figures.rows ≤ length c.sheet
+  unfolding sheets.figures
   rows-inside = rw told-listing (listable c passes).room
 
 -- a call of `sheet` that is not refused is answered with rows
 pub not-refused : (c : sheets.Call) {lent : List ℕ} (e : Refusal) → sheets.Answered c (sheets.told (Listing.Refused e)) lent
     → (sheets.judged c).number ≡ 0 → ⊥
-unfolding sheets.reply sheets.listing
-not-refused c e x passes =
-    let told : sheets.told (Listing.Refused e) ≡ sheets.listing c = x.told-reply ∙ rw passes in
-    let z : (refusal e).number ≡ 0 = ap (λ (r : sheets.Reply). r.number) told in
-    omega (arith, refusal-numbered e)
+not-refused c e x passes = granted-apart e (sym (told-listing c x passes))
 
 -- ---- a selection
 module _ (c : Call) (e : isSelected c ≡ true) where
@@ -136,8 +136,8 @@ module _ (c : Call) (e : isSelected c ≡ true) where
   best = optimum-set c.outline c.way c.count (selected-solvable c e).locked-fit
 
   -- the total's numbers are the first line's cost and diversity
-  pub total-is-first : totalLine c.outline c.way (bestSet c) ≡ labelled totalWord ((selected c).cost ∷ (selected c).diversity ∷ [])
-  unfolding totalLine selected
+  pub total-is-first : totalLine c.outline c.way (bestSet c) ≡ labelled totalWord ((figures c).cost ∷ (figures c).diversity ∷ [])
+  unfolding totalLine figures
   total-is-first = rw (quarters-sum c.outline (bestSet c) best.whole, diversity-sum c.outline (bestSet c) best.whole c.way)
 
   module _ {marks : List ℕ} (m : marks ≡ marksAfter c) where
@@ -151,19 +151,21 @@ module _ (c : Call) (e : isSelected c ≡ true) where
         set-listed (sheets.call c.outline c.way marks (replicate 192 0)) (selected-accepted c e) (way-known c e) (rw set-marked best)
         (rw set-marked (omega (arith, set-few c.outline (bestSet c) best, (selected-solvable c e).formed.taxa-most, length-replicate {A = ℕ} 192 0)))
 
-module _ (c : Call) (d k t s : ℕ) (e : record { number = 0; place = 0; diversity = d; cost = k; taxa = t; spare = s } ≡ reply c) where
+module _ (c : Call) (d k t s : ℕ) (e : told (Answer.Selected d k t s) ≡ reply c) where
   pub is-selected : isSelected c ≡ true
-  is-selected = told-selection c (sym (ap (λ (r : Reply). r.number) e))
+  unfolding reply
+  is-selected = eq-eqb _ _ (told-passed _ _ _ (sym (ap (λ (r : Reply Figures). r.number) e)))
 
-  replied : record { number = 0; place = 0; diversity = d; cost = k; taxa = t; spare = s } ≡ selected c
-  replied = e ∙ selection-told c is-selected
+  told-is : told (Answer.Selected d k t s) ≡ granted (figures c)
+  unfolding reply
+  told-is = e ∙ rw is-selected
 
   pub selected-text : {marks curve : List ℕ} → marks ≡ marksAfter c → curve ≡ curveAfter c
       → wholeText (c.count ∷ c.way ∷ d ∷ k ∷ t ∷ []) curve (c.count + 1) c.outline c.way marks ≡ answerText c
   unfolding answerText selectionText firstLine curveAfter
   selected-text {marks} {curve} m v =
       let v' : curve ≡ over (curveOf c) c.curve = rw is-selected at v in
-      let a : d ≡ (selected c).diversity = ap (λ (r : Reply). r.diversity) replied in
-      let b : k ≡ (selected c).cost = ap (λ (r : Reply). r.cost) replied in
-      let n : t ≡ (selected c).taxa = ap (λ (r : Reply). r.taxa) replied in
+      let a : d ≡ (figures c).diversity = ap (λ (r : Reply Figures). r.figures.diversity) told-is in
+      let b : k ≡ (figures c).cost = ap (λ (r : Reply Figures). r.figures.cost) told-is in
+      let n : t ≡ (figures c).taxa = ap (λ (r : Reply Figures). r.figures.taxa) told-is in
       rw (is-selected, set-marked c is-selected m, v', columns-text c c.curve, a, b, n)

@@ -21,7 +21,7 @@ use Rattle.diversity.specs.Search.{optimum, blankCost, bestDiversity, leastCost}
 use Rattle.laws.specs.Locks.{lockedSet}
 use Rattle.laws.proofs.Optimum.{optimum-set, optimum-fits, shown-diversity, shown-cost, blank-diversity, blank-cost}
 use Rattle.laws.proofs.Sums.{total-most}
-use Rattle.choice.specs.Answer.{Call, judged, isSelected, bestSet, selected}
+use Rattle.choice.specs.Answer.{Call, judged, isSelected, bestSet, figures}
 use Rattle.choice.specs.Inner.{Solvable}
 use Rattle.choice.proofs.Answers.{way-known, selected-solvable, judged-placed}
 use Rattle.choice.proofs.Solving.{diversity-most}
@@ -72,7 +72,7 @@ module _ (c : Call) (known : (c.way ≡ 0) ⊎ (c.way ≡ 1)) (p : Solvable c) (
   cost-most b h fit = omega (arith, (optimum-fits c.outline c.way b fit).cost-most, p.curve-long)
 
   first-most : length (firstLine c) ≤ 24
-  unfolding firstLine selected line others
+  unfolding firstLine figures line others
   first-most = simp length-append (omega (
     arith,
     decimal-most 2 c.count (omega (arith, p.curve-long)),

@@ -7,7 +7,7 @@ use Rattle.outline.specs.Answer.{sizeRows, recordRows}
 use Rattle.diversity.specs.Diversity.{chain, clade, chosen, within, elsewhere, rooted, unrooted, diversity, cost, holdsLocked, chosenTaxa}
 use Rattle.diversity.specs.Search.{subsets, leads, better, fits, turn, exhaustiveSearch, isHolding, setOf, optimum, noneFits}
 use Rattle.diversity.specs.Search.{bestDiversity, leastCost}
-use Rattle.choice.specs.Answer.{tooShort, judged, selected}
+use Rattle.choice.specs.Answer.{tooShort, judged, figures}
 use Rattle.text.specs.Text.{digitsIn, decimal, others, line, labelled, texts}
 use Rattle.sheet.specs.Sheet.{rowOf, sumOf}
 use Rattle.listing.specs.Printed.{callWith, callOf, refusalText, firstLine, columnLine, taxonLine, totalLine, sheetText}
@@ -42,7 +42,7 @@ pub tree-a-printed : printed (treeA 5 0 0) ≡ treeAText
 unfolding
     from anywhere total lowest short long records badField naming named badLink taxaIn taxa hasPlate isDuplicate sizeRows
     recordRows chain clade chosen within elsewhere rooted unrooted diversity cost locked holdsLocked chosenTaxa subsets leads
-    better fits turn exhaustiveSearch isHolding setOf optimum noneFits bestDiversity leastCost tooShort judged selected digitsIn
+    better fits turn exhaustiveSearch isHolding setOf optimum noneFits bestDiversity leastCost tooShort judged figures digitsIn
     decimal others line labelled texts rowOf sumOf callWith callOf refusalText firstLine columnLine taxonLine totalLine sheetText
     selectionText answerText printed treeA treeAText
 tree-a-printed = refl

@@ -6,7 +6,7 @@ use Rattle.refusals.specs.Refusals.{Ruling}
 use Rattle.outline.specs.Outline.{short, records}
 use Rattle.diversity.specs.Diversity.{chosen, diversity, cost}
 use Rattle.diversity.specs.Search.{bestDiversity, leastCost}
-use Rattle.choice.specs.Answer.{Call, judged, isSelected, bestSet, selected}
+use Rattle.choice.specs.Answer.{Call, judged, isSelected, bestSet, figures}
 use Rattle.sheet.specs.Sheet.{rowOf, sumOf}
 use Rattle.text.specs.Text.{line, labelled, texts}
 
@@ -25,7 +25,7 @@ refusalText t = labelled (114 ∷ 101 ∷ 102 ∷ 117 ∷ 115 ∷ 101 ∷ 100 �
 
 -- a selection prints one line with page count, way, diversity, cost, number of taxa
 unfoldable pub firstLine : Call → List ℕ
-firstLine c = line (c.count ∷ c.way ∷ (selected c).diversity ∷ (selected c).cost ∷ (selected c).taxa ∷ [])
+firstLine c = line (c.count ∷ c.way ∷ (figures c).diversity ∷ (figures c).cost ∷ (figures c).taxa ∷ [])
 
 -- then a line per column with b, diversity, cost
 unfoldable pub columnLine : Call → ℕ → List ℕ

@@ -14,6 +14,7 @@ use Rattle.sheet.specs.Answer as sheet
 use Rattle.sheet.specs.Demands as sheets
 use Rattle.sheet.proofs.Demands.{choice-listed}
 use Rattle.refusals.specs.Refusals.{Ruling}
+use Rattle.refusals.specs.Reply.{granted}
 use Rattle.view.specs.Answer as view
 use Rattle.view.specs.Demands.{BuyersCalls, HasRoom as ViewHasRoom, SameBytes}
 use Rattle.view.specs.View.{buyerView}
@@ -32,7 +33,7 @@ pub written-again : {c d : read.Call} {w v : write.Call} {n m k l : ℕ} {first 
     → TextRead c n first outline → n ≡ 0
     → Returned (readIn first) outline w → TextWritten w m one text pairs → m ≡ 0
     → Handed (writtenIn one) text pairs d → length w.outline ≤ length d.outline → TextRead d k second again
-    → Returned (readIn second) again v → HasRoom (writtenIn one).bytes (writtenIn one).pairs v → TextWritten v l two text' pairs'
+    → Returned (readIn second) again v → HasRoom (writtenIn one).figures.bytes (writtenIn one).figures.pairs v → TextWritten v l two text' pairs'
     → WroteAlike (writtenIn one) text pairs (writtenIn two) text' pairs'
 written-again x z ret y e h long p ret' room y' =
     second-writing x.answered (sym x.number-given ∙ z) ret y.answered (sym y.number-given ∙ e) h long p.answered ret' room
@@ -41,7 +42,8 @@ written-again x z ret y e h long p ret' room y' =
 -- a choice's marks are accepted as they are, and the sums are the choice's cost and diversity
 pub chosen-listed : {c : choose.Call} {d : sheet.Call} {n m : ℕ} {answer marks curve work answer' lent : List ℕ}
     → Chosen c n answer marks curve work → n ≡ 0 → sheets.Handed c (chosenIn answer) marks d → SheetListed d m answer' lent
-    → listedIn answer' ≡ sheet.listed (chosenIn answer).taxa (chosenIn answer).cost (chosenIn answer).diversity
+    → listedIn answer'
+    ≡ granted (sheet.sums (chosenIn answer).figures.taxa (chosenIn answer).figures.cost (chosenIn answer).figures.diversity)
 chosen-listed {c} {d} x z h y = choice-listed c x.answered (sym x.number-given ∙ z) d h y.answered
 
 -- two buyers' readers of accepted outlines that agree except in prices and locks get identical bytes: from any two views that suffice, and

@@ -4,57 +4,50 @@ use Rattle.choice.specs.Answer as choose
 use Rattle.reading.specs.Answer as read
 use Rattle.writing.specs.Answer as write
 use Rattle.refusals.specs.Refusals.{Ruling, ruling}
+use Rattle.refusals.specs.Reply.{Reply}
 use Rattle.sheet.specs.Answer as sheet
 use Rattle.view.specs.Answer as view
 
 -- what a function gives with its `answer`: that has so many numbers and no more, the first of them is given, and they answer the
 -- call
-pub record Given {Reply : Type 0} (many : ℕ) (replyIn : List ℕ → Reply) (Answered : Reply → Type 0) (number : ℕ) (answer : List ℕ) : Type 0 where
+pub record Given {Told : Type 0} (many : ℕ) (toldIn : List ℕ → Told) (Answered : Told → Type 0) (number : ℕ) (answer : List ℕ) : Type 0 where
   pub answer-long : length answer ≡ many
   pub number-given : number ≡ get_or answer 0 0
-  pub answered : Answered (replyIn answer)
+  pub answered : Answered (toldIn answer)
+
+-- a reply in an answer: number and place are its first two numbers, the figures those that follow
+abbrev pub replyIn : {Figures : Type 0} → List ℕ → Figures → Reply Figures
+replyIn answer figures = record { number = get_or answer 0 0; place = get_or answer 1 0; figures = figures }
 
 -- the six numbers of choosing
-abbrev pub chosenIn : List ℕ → choose.Reply
-chosenIn answer = record {
-  number = get_or answer 0 0;
-  place = get_or answer 1 0;
-  diversity = get_or answer 2 0;
-  cost = get_or answer 3 0;
-  taxa = get_or answer 4 0;
-  spare = get_or answer 5 0;
-}
+abbrev pub chosenIn : List ℕ → Reply choose.Figures
+chosenIn answer =
+    replyIn answer
+    (record { diversity = get_or answer 2 0; cost = get_or answer 3 0; taxa = get_or answer 4 0; spare = get_or answer 5 0 })
 
 -- a call is answered by them as `choose` answers it
 abbrev pub Chosen : choose.Call → ℕ → List ℕ → List ℕ → List ℕ → List ℕ → Type 0
 Chosen c number answer marks curve work = Given 6 chosenIn (λ r. choose.Answered c r marks curve work) number answer
 
 -- the five numbers of a sheet
-abbrev pub listedIn : List ℕ → sheet.Reply
-listedIn answer = record {
-  number = get_or answer 0 0;
-  place = get_or answer 1 0;
-  rows = get_or answer 2 0;
-  quarters = get_or answer 3 0;
-  diversity = get_or answer 4 0;
-}
+abbrev pub listedIn : List ℕ → Reply sheet.Figures
+listedIn answer = replyIn answer (sheet.sums (get_or answer 2 0) (get_or answer 3 0) (get_or answer 4 0))
 
 -- a call is answered by them as `sheet` answers it
 abbrev pub SheetListed : sheet.Call → ℕ → List ℕ → List ℕ → Type 0
 SheetListed c number answer lent = Given 5 listedIn (λ r. sheet.Answered c r lent) number answer
 
 -- the three numbers of reading
-abbrev pub readIn : List ℕ → read.Reply
-readIn answer = record { number = get_or answer 0 0; place = get_or answer 1 0; records = get_or answer 2 0 }
+abbrev pub readIn : List ℕ → Reply read.Figures
+readIn answer = replyIn answer (read.counted (get_or answer 2 0))
 
 -- a call is answered by them as `read` answers it
 abbrev pub TextRead : read.Call → ℕ → List ℕ → List ℕ → Type 0
 TextRead c number answer outline = Given 3 readIn (λ r. read.Answered c r outline) number answer
 
 -- the four numbers of writing
-abbrev pub writtenIn : List ℕ → write.Reply
-writtenIn answer =
-    record { number = get_or answer 0 0; place = get_or answer 1 0; bytes = get_or answer 2 0; pairs = get_or answer 3 0 }
+abbrev pub writtenIn : List ℕ → Reply write.Figures
+writtenIn answer = replyIn answer (write.counts (get_or answer 2 0) (get_or answer 3 0))
 
 -- a call is answered by them as `write` answers it
 abbrev pub TextWritten : write.Call → ℕ → List ℕ → List ℕ → List ℕ → Type 0

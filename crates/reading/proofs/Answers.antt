@@ -10,6 +10,7 @@ use lib.Seq.{take_at}
 use borrow.Author.Tests.{lt-ltb, le-ltb}
 use Rattle.lists.specs.Lists.{over, overAt}
 use Rattle.refusals.specs.Refusals.{Ruling, passed, refusal, told as toldVerdict, after}
+use Rattle.refusals.specs.Reply.{Reply}
 use Rattle.refusals.specs.declared.verdict.Refusal.{Refusal}
 use Rattle.refusals.specs.declared.verdict.Verdict.{Verdict}
 use Rattle.refusals.proofs.Refusals.{refusal-not-zero}
@@ -20,7 +21,7 @@ use Rattle.newick.specs.Layout.{count, layout}
 use Rattle.newick.specs.Pairs.{priceIn, badPairs}
 use Rattle.newick.specs.Parsing.{Parsed, unread, tree, grown, parsed}
 use Rattle.reading.specs.Scan.{isTree}
-use Rattle.reading.specs.Answer.{call, Reply, told, rowsFor, judged, reply, outlineAfter, Answered}
+use Rattle.reading.specs.Answer.{call, Figures, told, rowsFor, judged, reply, outlineAfter, Answered}
 use Rattle.newick.specs.Inner.{platesOf}
 use Rattle.reading.specs.Inner.{TreeRead, tree-bad, tree-many, tree-read, placeRows, Placed}
 use Rattle.reading.specs.declared.reader.Answer.{Answer}
@@ -139,7 +140,7 @@ module _ (text pairs outline : List ℕ) where
         go (tree t) e f = absurd (false≢true f)
 
     -- a tree of few records, judged and written
-    pub placed-answered : {draft after : List ℕ} {n : ℕ} {r : Reply} {left : List ℕ} → TreeRead pairs text draft after (Draft.Read n)
+    pub placed-answered : {draft after : List ℕ} {n : ℕ} {r : Reply Figures} {left : List ℕ} → TreeRead pairs text draft after (Draft.Read n)
         → Placed (take (16 * n) after) pairs outline r left → Answered (call text pairs outline) r left
     unfolding judged reply outlineAfter
     placed-answered {draft} {after} {n} {r} {left} (tree-read t e c k d) w =

@@ -11,13 +11,14 @@ use borrow.Author.Tests.{eqb-true, eq-eqb, ne_eqb, le-ltb, ltb-false}
 use Rattle.refusals.specs.Refusals.{Ruling, passed, row}
 use Rattle.refusals.proofs.Placed.{Placed, row-placed, then-placed}
 use Rattle.refusals.proofs.Refusals.{both-pass, row-fails}
+use Rattle.refusals.proofs.Replies.{told-place, told-figures}
 use Rattle.outline.specs.Answer.{sizeRows}
 use Rattle.outline.proofs.Placed.{records-placed}
 use Rattle.newick.specs.Grammar.{part, Tree}
 use Rattle.newick.specs.Layout.{count, plates, layout}
 use Rattle.newick.specs.Pairs.{priceIn, badPairs}
 use Rattle.newick.specs.Parsing.{Parsed, unread, tree, parsed}
-use Rattle.reading.specs.Answer.{Call, refused, accepted, rowsFor, judged, countOf, reply}
+use Rattle.reading.specs.Answer.{Call, Figures, rowsFor, judged, countOf, reply}
 use Rattle.reading.proofs.Answers.{layout-length, layout-size}
 use Rattle.newick.proofs.Layouts.{count-some}
 use Rattle.outline.specs.Rules.{mostRecords}
@@ -60,16 +61,8 @@ count-few (tree t) pairs room z =
 module _ (c : Call) where
   pub reply-place-most : (reply c).place ≤ mostRecords
   unfolding reply judged
-  reply-place-most = go (eqb (judged c).number 0)
-    where
-      go : (b : Bool) → (if b then accepted (countOf (parsed c.text)) else refused (judged c)).place ≤ mostRecords
-      go true = omega arith
-      go false = (rows-placed (parsed c.text) c.pairs (length c.outline)).place-most
+  reply-place-most = told-place _ _ _ (rows-placed (parsed c.text) c.pairs (length c.outline)).place-most
 
-  pub reply-records-most : (reply c).records ≤ mostRecords
+  pub reply-records-most : (reply c).figures.records ≤ mostRecords
   unfolding reply judged
-  reply-records-most = go (eqb (judged c).number 0) refl
-    where
-      go : (b : Bool) → eqb (judged c).number 0 ≡ b → (if b then accepted (countOf (parsed c.text)) else refused (judged c)).records ≤ mostRecords
-      go true e = count-few (parsed c.text) c.pairs (length c.outline) (eqb-true _ _ e)
-      go false e = omega arith
+  reply-records-most = told-figures _ _ _ (λ (f : Figures). f.records ≤ mostRecords) (omega arith) (count-few (parsed c.text) c.pairs (length c.outline))

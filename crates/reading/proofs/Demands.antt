@@ -11,9 +11,11 @@ use lib.ListN.{length, take, drop}
 use borrow.Author.Tests.{eqb-true, ne_eqb, ltb-false}
 use Rattle.lists.specs.Lists.{over}
 use Rattle.lists.proofs.Buffers.{over-taken, over-past}
-use Rattle.refusals.specs.Refusals.{Ruling, passed, refusal, row}
+use Rattle.refusals.specs.Refusals.{Ruling, passed, row}
+use Rattle.refusals.specs.Reply.{Reply}
 use Rattle.refusals.specs.Table.{FirstRow, here, later, fails, Gives, gives-none, gives-first}
-use Rattle.refusals.proofs.Refusals.{refusal-numbered, refusal-determined, both-pass, row-fails}
+use Rattle.refusals.proofs.Refusals.{both-pass, row-fails}
+use Rattle.refusals.proofs.Replies.{told-passed, decided, granted-apart, refused-determined}
 use Rattle.refusals.proofs.Tests.{Decides, decides-less}
 use Rattle.refusals.proofs.Tables.{gives-then, gives-passed, gives-whole}
 use Rattle.outline.specs.Answer.{recordRows, checked}
@@ -22,7 +24,7 @@ use Rattle.newick.specs.Grammar.{part, Tree, Spells}
 use Rattle.newick.specs.Layout.{count, plates, layout}
 use Rattle.newick.specs.Pairs.{priceIn, badPairs}
 use Rattle.newick.specs.Parsing.{Parsed, unread, tree, parsed}
-use Rattle.reading.specs.Answer.{Call, Reply, rulingOf, refused, accepted, told, rowsFor, judged, countOf, outlineOf, reply, outlineAfter, Answered}
+use Rattle.reading.specs.Answer.{Call, Figures, numbersOf, told, rowsFor, judged, outlineOf, reply, outlineAfter, Answered}
 use Rattle.reading.specs.Demands.{OfTree, tableOf, readTable, ReadOrRefused, TreeGiven}
 use Rattle.reading.specs.declared.reader.Answer.{Answer}
 use Rattle.reading.proofs.Answers.{layout-length}
@@ -33,14 +35,10 @@ use Rattle.outline.specs.Rules.{mostRecords}
 
 -- the numbers told determine the answer
 pub told-determined : (a b : Answer) → told a ≡ told b → a ≡ b
-told-determined (Answer.Read m) (Answer.Read n) h = ap Answer.Read (ap (λ (r : Reply). r.records) h)
-told-determined (Answer.Read m) (Answer.Refused e) h =
-    let z : 0 ≡ (refusal e).number = ap (λ (r : Reply). r.number) h in
-    absurd (omega (arith, refusal-numbered e))
-told-determined (Answer.Refused d) (Answer.Read n) h =
-    let z : (refusal d).number ≡ 0 = ap (λ (r : Reply). r.number) h in
-    absurd (omega (arith, refusal-numbered d))
-told-determined (Answer.Refused d) (Answer.Refused e) h = ap Answer.Refused (refusal-determined d e (ap rulingOf h))
+told-determined (Answer.Read m) (Answer.Read n) h = ap Answer.Read (ap (λ (r : Reply Figures). r.figures.records) h)
+told-determined (Answer.Read m) (Answer.Refused e) h = absurd (granted-apart e h)
+told-determined (Answer.Refused d) (Answer.Read n) h = absurd (granted-apart d (sym h))
+told-determined (Answer.Refused d) (Answer.Refused e) h = ap Answer.Refused (refused-determined d e h)
 
 -- ---- what a call is judged is what its table gives
 module _ (c : Call) where
@@ -73,14 +71,6 @@ module _ (c : Call) where
           (gives-then (gives-whole 8 (decides-tree t s (decides-less (length c.outline) (16 * count t))))
           (records-give (outlineOf c.pairs (tree t))))))
 
-  reply-told : rulingOf (reply c) ≡ judged c
-  unfolding reply
-  reply-told = go (eqb (judged c).number 0) refl
-    where
-      go : (b : Bool) → eqb (judged c).number 0 ≡ b → rulingOf (if b then accepted (countOf (parsed c.text)) else refused (judged c)) ≡ judged c
-      go true e = sym (gives-passed judged-gives (eqb-true _ _ e))
-      go false e = refl
-
   -- rows 5 to 8 of the table are those of the outline of the tree that the text spells
   pub table-spelled : (t : Tree part) → Spells t c.text → readTable c ≡ tableOf c (tree t)
   table-spelled t s = ap (tableOf c) (parsed-complete t c.text s)
@@ -105,45 +95,36 @@ module _ (t : Tree part) (pairs : List ℕ) (room : ℕ) (z : (rowsFor (tree t) 
   unfolding checked
   layout-accepted = rw (layout-sized (priceIn pairs) t (ltb-false mostRecords (count t) rows-pass.0)) rows-pass.2
 
-passed-given : (c : Call) {r : Reply} {outline : List ℕ} → Answered c r outline → (t : Tree part) → parsed c.text ≡ tree t
+passed-given : (c : Call) {r : Reply Figures} {outline : List ℕ} → Answered c r outline → (t : Tree part) → parsed c.text ≡ tree t
     → (rowsFor (tree t) c.pairs (length c.outline)).number ≡ 0 → TreeGiven c r outline
 unfolding judged reply outlineAfter
 passed-given c {r} {outline} x t e z =
     let o = layout (priceIn c.pairs) t in
     let pass = rows-pass t c.pairs (length c.outline) z in
-    let records-are : r.records ≡ count t = rw (x.told-reply, e, z) in
+    let records-are : r.figures.records ≡ count t = rw (x.told-reply, e, z) in
     let written : outline ≡ over o c.outline = x.outline-written ∙ rw (e, z) in
-    let long : length o ≡ 16 * r.records = omega (arith, layout-length (priceIn c.pairs) t) in
-    let begins : take (16 * r.records) outline ≡ o = ap (take (16 * r.records)) written ∙ over-taken o c.outline (16 * r.records) long in
+    let long : length o ≡ 16 * r.figures.records = omega (arith, layout-length (priceIn c.pairs) t) in
+    let begins : take (16 * r.figures.records) outline ≡ o = ap (take (16 * r.figures.records)) written ∙ over-taken o c.outline (16 * r.figures.records) long in
     record {
       tree = t;
       spelled = parsed-sound t c.text e;
       only = λ u s. one-tree s (parsed-sound t c.text e);
       records-are = records-are;
       begins = begins;
-      rest = ap (drop (16 * r.records)) written ∙ over-past o c.outline (16 * r.records) long;
+      rest = ap (drop (16 * r.figures.records)) written ∙ over-past o c.outline (16 * r.figures.records) long;
       accepted = rw begins (layout-accepted t c.pairs (length c.outline) z);
       one-pair = pairs-once (plates t) c.pairs pass.1;
       its-price = λ p i. priced c.pairs p (pairs-once (plates t) c.pairs pass.1 p i);
     }
 
 -- ---- the promises
-module _ (c : Call) {r : Reply} {outline : List ℕ} (x : Answered c r outline) where
-  is-told : rulingOf r ≡ judged c
-  is-told = ap rulingOf x.told-reply ∙ reply-told c
-
-  number-is : r.number ≡ (judged c).number
-  number-is = ap (λ (t : Ruling). t.number) is-told
-
+module _ (c : Call) {r : Reply Figures} {outline : List ℕ} (x : Answered c r outline) where
   -- demand 1: a tree is read, or exactly one refusal of the table, under its condition only; a refusal changes no byte of the outline
   pub demand-1 : ReadOrRefused c r outline
   unfolding reply outlineAfter
   demand-1 =
-      record {
-        given = rw is-told (judged-gives c);
-        others-zero = λ h. rw (x.told-reply, ne_eqb (judged c).number 0 (λ z. omega (arith, number-is)));
-        unchanged = λ h. rw (x.outline-written, ne_eqb (judged c).number 0 (λ z. omega (arith, number-is)));
-      }
+      decided _ _ _ numbersOf refl (judged-gives c) x.told-reply
+      (λ h. rw (x.outline-written, ne_eqb (judged c).number 0 (λ z. omega arith)))
 
   -- 10 is given exactly if the text spells no tree
   pub ten-exactly : r.number ≡ 10 ↔ ((t : Tree part) → Spells t c.text → ⊥)
@@ -172,8 +153,11 @@ module _ (c : Call) {r : Reply} {outline : List ℕ} (x : Answered c r outline) 
   pub tree-given : r.number ≡ 0 → TreeGiven c r outline
   tree-given z = go (parsed c.text) refl
     where
+      passes : (judged c).number ≡ 0
+      passes = unfold reply in told-passed _ _ _ (sym (ap (λ (a : Reply Figures). a.number) x.told-reply) ∙ z)
+
       judged-zero : (p : Parsed) → parsed c.text ≡ p → (rowsFor p c.pairs (length c.outline)).number ≡ 0
-      judged-zero p e = unfold judged in sym (ap (λ q. (rowsFor q c.pairs (length c.outline)).number) e) ∙ sym number-is ∙ z
+      judged-zero p e = unfold judged in sym (ap (λ q. (rowsFor q c.pairs (length c.outline)).number) e) ∙ passes
 
       go : (p : Parsed) → parsed c.text ≡ p → TreeGiven c r outline
       go unread e = absurd (ten-not-zero c.pairs (length c.outline) (judged-zero unread e))

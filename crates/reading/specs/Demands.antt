@@ -1,6 +1,7 @@
 -- The words of what is promised of a call of `read`: its table of refusals, and what an outline that was read is.
 use Rattle.std.specs.Prelude.{ℕ, ◌*◌, ◌%◌, ◌<◌, ◌≡◌, ◌⊎◌, ◌≢◌, List, [], ◌∷◌, ◌++◌, length, take, drop}
 use Rattle.refusals.specs.Refusals.{passed}
+use Rattle.refusals.specs.Reply.{Reply, rulingOf}
 use Rattle.refusals.specs.Table.{Row, whole, Decided}
 use Rattle.outline.specs.Answer.{checked}
 use Rattle.outline.specs.Demands.{recordTable}
@@ -8,7 +9,7 @@ use Rattle.newick.specs.Grammar.{part, Tree, Spells}
 use Rattle.newick.specs.Layout.{count, plates, layout}
 use Rattle.newick.specs.Pairs.{priceIn, pairsOf}
 use Rattle.newick.specs.Parsing.{Parsed, parsed}
-use Rattle.reading.specs.Answer.{Call, Reply, rulingOf, othersOf, outlineOf}
+use Rattle.reading.specs.Answer.{Call, Figures, numbersOf, outlineOf}
 use Rattle.outline.specs.Rules.{mostRecords}
 
 -- a number is in a list
@@ -48,18 +49,18 @@ readTable c = tableOf c (parsed c.text)
 
 -- demand 1: a tree is read, and no row of the table holds; or exactly one refusal of the table, under its condition only, and
 -- then N is 0, and no byte of the outline is changed
-abbrev pub ReadOrRefused : Call → Reply → List ℕ → Type 1
-ReadOrRefused c r outline = Decided (readTable c) (rulingOf r) (othersOf r) (c.outline ∷ []) (outline ∷ [])
+abbrev pub ReadOrRefused : Call → Reply Figures → List ℕ → Type 1
+ReadOrRefused c r outline = Decided (readTable c) (rulingOf r) (numbersOf r.figures) (c.outline ∷ []) (outline ∷ [])
 
 -- a text that was read spells one tree; N is its count of records, and the outline begins with them: each taxon has the price of
 -- its one pair, the check accepts them, and what is past them is unchanged
-pub record TreeGiven (c : Call) (r : Reply) (outline : List ℕ) : Type 0 where
+pub record TreeGiven (c : Call) (r : Reply Figures) (outline : List ℕ) : Type 0 where
   pub tree : Tree part
   pub spelled : Spells tree c.text
   pub only : (t : Tree part) → Spells t c.text → t ≡ tree
-  pub records-are : r.records ≡ count tree
-  pub begins : take (16 * r.records) outline ≡ layout (priceIn c.pairs) tree
-  pub rest : drop (16 * r.records) outline ≡ drop (16 * r.records) c.outline
-  pub accepted : checked (take (16 * r.records) outline) ≡ passed
+  pub records-are : r.figures.records ≡ count tree
+  pub begins : take (16 * r.figures.records) outline ≡ layout (priceIn c.pairs) tree
+  pub rest : drop (16 * r.figures.records) outline ≡ drop (16 * r.figures.records) c.outline
+  pub accepted : checked (take (16 * r.figures.records) outline) ≡ passed
   pub one-pair : (p : ℕ) → In p (plates tree) → pairsOf c.pairs p ≡ 1
   pub its-price : (p : ℕ) → In p (plates tree) → Pair p (priceIn c.pairs p) c.pairs

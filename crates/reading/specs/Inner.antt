@@ -2,6 +2,7 @@
 use Rattle.std.specs.Prelude.{if◌then◌else◌, ℕ, ◌+◌, ◌*◌, ◌-◌, ◌≤◌, ◌<◌, ◌≡◌, Bool, ◌&&◌, not, List, [], length, eqb, ltb}
 use Rattle.lists.specs.Lists.{anywhere, overAt}
 use Rattle.refusals.specs.Refusals.{Ruling, row, ◌▸◌, after}
+use Rattle.refusals.specs.Reply.{Reply, replied}
 use Rattle.outline.specs.Outline.{size, records, plate, isTaxon, recordBytes}
 use Rattle.outline.specs.Answer.{recordRows}
 use Rattle.newick.specs.Grammar.{Kind, part, chain, Tree, taxon, group}
@@ -10,7 +11,7 @@ use Rattle.newick.specs.Layout.{count, rows, layout}
 use Rattle.newick.specs.Pairs.{priceIn, pairsOf, badPairs}
 use Rattle.newick.specs.Parsing.{Outcome, failed, got, withNumber, withLength, readIn, unread, tree, grown}
 use Rattle.newick.specs.declared.token.Token.{Token}
-use Rattle.reading.specs.Answer.{Reply, refused, accepted}
+use Rattle.reading.specs.Answer.{Figures, counted, noFigures}
 use Rattle.reading.specs.declared.cursor.Cursor.{Cursor}
 use Rattle.reading.specs.declared.part.Length.{Length}
 use Rattle.reading.specs.declared.part.Part.{Part}
@@ -166,6 +167,6 @@ unfoldable pub placeRows : List ℕ → List ℕ → ℕ → Ruling
 placeRows o pairs room = row 11 (badPairs (platesOf o) pairs) ▸ row 9 (ltb room (length o)) ▸ recordRows o
 
 -- what judging and writing it ensures
-pub record Placed (o pairs outline : List ℕ) (r : Reply) (left : List ℕ) : Type 0 where
-  pub told-placed : r ≡ (if eqb (placeRows o pairs (length outline)).number 0 then accepted (size o) else refused (placeRows o pairs (length outline)))
+pub record Placed (o pairs outline : List ℕ) (r : Reply Figures) (left : List ℕ) : Type 0 where
+  pub told-placed : r ≡ replied noFigures (placeRows o pairs (length outline)) (counted (size o))
   pub outline-placed : left ≡ after (placeRows o pairs (length outline)) o outline

@@ -39,6 +39,22 @@ module _ {Figures : Type 0} (none : Figures) (t : Ruling) (f : Figures) where
       go true e = sym (gives-passed g (eqb-true _ _ e))
       go false e = refl
 
+  -- a place is at most what the ruling's is at most
+  pub told-place : {most : ℕ} → t.place ≤ most → (replied none t f).place ≤ most
+  told-place {most} h = go (eqb t.number 0)
+    where
+      go : (b : Bool) → (if b then granted f else refused none t).place ≤ most
+      go true = omega arith
+      go false = h
+
+  -- what holds of no figures, and of the figures where no row holds, holds of those that are told
+  pub told-figures : (P : Figures → Type 0) → P none → (t.number ≡ 0 → P f) → P (replied none t f).figures
+  told-figures P nothing something = go (eqb t.number 0) refl
+    where
+      go : (b : Bool) → eqb t.number 0 ≡ b → P (if b then granted f else refused none t).figures
+      go true e = something (eqb-true _ _ e)
+      go false e = nothing
+
   -- demand 1, of a call whose rows are a table's, and whose buffers a refusal leaves as they were
   pub decided : (listed : Figures → List ℕ) {r : Reply Figures} {rows : List Row} {before after : List (List ℕ)}
       → listed none ≡ replicate (length (listed none)) 0 → Gives rows t → r ≡ replied none t f → (1 ≤ t.number → after ≡ before)

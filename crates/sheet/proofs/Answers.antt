@@ -16,6 +16,7 @@ use Rattle.lists.proofs.Walk.{lowest-none}
 use Rattle.refusals.specs.Refusals.{refusal, row, rowAt}
 use Rattle.refusals.specs.declared.verdict.Refusal.{Refusal}
 use Rattle.refusals.proofs.Placed.{Placed, row-placed, row-at-placed, then-placed}
+use Rattle.refusals.proofs.Replies.{told-place}
 use Rattle.refusals.proofs.Refusals.{both-pass, row-fails, row-at-fails, refusal-not-zero}
 use Rattle.outline.specs.Outline.{size, isTaxon}
 use Rattle.outline.specs.Answer.{checked}
@@ -24,7 +25,7 @@ use Rattle.outline.proofs.Placed.{checked-placed}
 use Rattle.diversity.specs.Behind.{MarkAt, IsSet}
 use Rattle.measures.specs.Measures.{Measured}
 use Rattle.measures.specs.declared.figures.Measure.{Measure}
-use Rattle.sheet.specs.Answer.{Call, Answered, badMark, markedSet, sheetTaken, judged, refused, told, listing, reply, sheetAfter}
+use Rattle.sheet.specs.Answer.{Call, Answered, badMark, markedSet, sheetTaken, judged, told, figures, reply, sheetAfter}
 use Rattle.sheet.specs.Inner.{Listable}
 use Rattle.sheet.specs.Sheet.{rowsOf}
 use Rattle.sheet.specs.declared.answer.Answer.{Answer}
@@ -96,7 +97,7 @@ module _ (c : Call) where
     -- a listing
     pub listed-answered : {m : Measure} {sheet : List ℕ} → sheet ≡ over (rowsOf c.outline c.way (markedSet c)) c.sheet
         → Measured c.outline (markedSet c) c.way m → Answered c (told (Answer.Listed m.taxa m.cost m.diversity)) sheet
-    unfolding reply listing sheetAfter
+    unfolding reply figures sheetAfter
     listed-answered w m =
         let quarters = quarters-sum c.outline (markedSet c) set-long in
         let diversities = diversity-sum c.outline (markedSet c) set-long c.way in
@@ -124,9 +125,5 @@ module _ (c : Call) where
       (λ _. row-placed mostRecords 9 (ltb (length c.sheet) (sheetTaken c)) (omega arith)))))
 
   pub reply-place-most : (reply c).place ≤ mostRecords
-  unfolding reply listing
-  reply-place-most = go (eqb (judged c).number 0)
-    where
-      go : (b : Bool) → (if b then listing c else refused (judged c)).place ≤ mostRecords
-      go true = omega arith
-      go false = judged-placed.place-most
+  unfolding reply
+  reply-place-most = told-place _ _ _ judged-placed.place-most

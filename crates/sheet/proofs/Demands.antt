@@ -13,9 +13,9 @@ use borrow.Author.Tests.{eqb-true, ne_eqb, le-ltb}
 use Rattle.lists.specs.Lists.{from, lowest, over}
 use Rattle.lists.proofs.Buffers.{over-past}
 use Rattle.lists.proofs.Walk.{none-lowest}
-use Rattle.refusals.specs.Refusals.{Ruling, refusal}
+use Rattle.refusals.specs.Reply.{Reply, granted}
 use Rattle.refusals.specs.Table.{Gives}
-use Rattle.refusals.proofs.Refusals.{refusal-numbered, refusal-determined}
+use Rattle.refusals.proofs.Replies.{told-passed, granted-told, decided, granted-apart, refused-determined}
 use Rattle.refusals.proofs.Tests.{decides-less}
 use Rattle.refusals.proofs.Tables.{gives-then, gives-passed, gives-whole, gives-lowest, gives-way}
 use Rattle.outline.specs.Outline.{size, isTaxon, IsRecord}
@@ -25,9 +25,9 @@ use Rattle.diversity.specs.Diversity.{chosen, diversity, cost, chosenTaxa}
 use Rattle.diversity.specs.Behind.{MarkAt, IsSet}
 use Rattle.laws.proofs.Prefixes.{cost-step, diversity-step}
 use Rattle.choice.specs.Answer as choose
-use Rattle.choice.proofs.Answers.{told-selection, selected-accepted}
-use Rattle.choice.proofs.Demands.{demand-2, demand-3}
-use Rattle.sheet.specs.Answer.{Call, Reply, Answered, rulingOf, refused, listed, told, markedSet, badMark, sheetTaken, judged, listing, reply, sheetAfter}
+use Rattle.choice.proofs.Answers.{selected-accepted}
+use Rattle.choice.proofs.Demands.{selected-row, demand-2, demand-3}
+use Rattle.sheet.specs.Answer.{Call, Figures, sums, Answered, numbersOf, told, markedSet, badMark, sheetTaken, judged, figures, reply, sheetAfter}
 use Rattle.sheet.specs.Demands.{sheetTable, ListedOrRefused, AddsUp, TrueRow, RowsGiven, Handed}
 use Rattle.sheet.specs.Sheet.{rowOf, rowsOf}
 use Rattle.sheet.specs.declared.answer.Answer.{Answer}
@@ -38,14 +38,11 @@ use Rattle.sheet.proofs.Sums.{quarters-sum, diversity-sum, rows-long, row-over, 
 -- the numbers told determine the answer
 pub told-determined : (a b : Answer) → told a ≡ told b → a ≡ b
 told-determined (Answer.Listed n q d) (Answer.Listed m p e) h =
-    rw (ap (λ (r : Reply). r.rows) h, ap (λ (r : Reply). r.quarters) h, ap (λ (r : Reply). r.diversity) h)
-told-determined (Answer.Listed n q d) (Answer.Refused e) h =
-    let z : 0 ≡ (refusal e).number = ap (λ (r : Reply). r.number) h in
-    absurd (omega (arith, refusal-numbered e))
-told-determined (Answer.Refused d) (Answer.Listed n q e) h =
-    let z : (refusal d).number ≡ 0 = ap (λ (r : Reply). r.number) h in
-    absurd (omega (arith, refusal-numbered d))
-told-determined (Answer.Refused d) (Answer.Refused e) h = ap Answer.Refused (refusal-determined d e (ap rulingOf h))
+    let f : sums n q d ≡ sums m p e = ap (λ (r : Reply Figures). r.figures) h in
+    rw (ap (λ (g : Figures). g.rows) f, ap (λ (g : Figures). g.quarters) f, ap (λ (g : Figures). g.diversity) f)
+told-determined (Answer.Listed n q d) (Answer.Refused e) h = absurd (granted-apart e h)
+told-determined (Answer.Refused d) (Answer.Listed n q e) h = absurd (granted-apart d (sym h))
+told-determined (Answer.Refused d) (Answer.Refused e) h = ap Answer.Refused (refused-determined d e h)
 
 module _ (c : Call) where
   -- what a call is judged is what its table gives
@@ -58,38 +55,28 @@ module _ (c : Call) where
       (gives-then (gives-lowest 13 (size c.outline) (badMark c.outline c.marks))
       (gives-whole 8 (decides-less (length c.sheet) (sheetTaken c))))))
 
-  reply-told : rulingOf (reply c) ≡ judged c
-  unfolding reply listing
-  reply-told = go (eqb (judged c).number 0) refl
-    where
-      go : (b : Bool) → eqb (judged c).number 0 ≡ b → rulingOf (if b then listing c else refused (judged c)) ≡ judged c
-      go true e = sym (gives-passed judged-gives (eqb-true _ _ e))
-      go false e = refl
-
-module _ (c : Call) {r : Reply} {sheet : List ℕ} (x : Answered c r sheet) where
-  is-told : rulingOf r ≡ judged c
-  is-told = ap rulingOf x.told-reply ∙ reply-told c
-
-  number-is : r.number ≡ (judged c).number
-  number-is = ap (λ (t : Ruling). t.number) is-told
-
+module _ (c : Call) {r : Reply Figures} {sheet : List ℕ} (x : Answered c r sheet) where
   -- demand 1: the set is listed, or exactly one refusal of the table, under its condition only; a refusal leaves the sheet
   pub demand-1 : ListedOrRefused c r sheet
   unfolding reply sheetAfter
   demand-1 =
-      record {
-        given = rw is-told (judged-gives c);
-        others-zero = λ h. rw (x.told-reply, ne_eqb (judged c).number 0 (λ z. omega (arith, number-is)));
-        unchanged = λ h. rw (x.sheet-written, ne_eqb (judged c).number 0 (λ z. omega (arith, number-is)));
-      }
+      decided _ _ _ numbersOf refl (judged-gives c) x.told-reply
+      (λ h. rw (x.sheet-written, ne_eqb (judged c).number 0 (λ z. omega arith)))
+
+  -- where no row of the table holds, the number told is 0
+  told-zero : (judged c).number ≡ 0 → r.number ≡ 0
+  unfolding reply
+  told-zero z = ap (λ (a : Reply Figures). a.number) (x.told-reply ∙ granted-told _ _ _ z)
 
   -- the number told is 0
   module _ (z : r.number ≡ 0) where
     passes : (judged c).number ≡ 0
-    passes = sym number-is ∙ z
+    unfolding reply
+    passes = told-passed _ _ _ (sym (ap (λ (a : Reply Figures). a.number) x.told-reply) ∙ z)
 
-    told-sums : r ≡ listed (chosenTaxa c.outline (markedSet c)) (cost c.outline (markedSet c)) (diversity c.outline c.way (markedSet c))
-    unfolding reply listing
+    told-sums :
+        r ≡ granted (sums (chosenTaxa c.outline (markedSet c)) (cost c.outline (markedSet c)) (diversity c.outline c.way (markedSet c)))
+    unfolding reply figures
     told-sums =
         let o = c.outline in
         let s = markedSet c in
@@ -101,16 +88,16 @@ module _ (c : Call) {r : Reply} {sheet : List ℕ} (x : Answered c r sheet) wher
       accepted = gives-passed (checked-gives c.outline) (outline-accepted c passes);
       way-known = way-known c passes;
       marked-set = marked-set c passes;
-      rows-true = ap (λ (a : Reply). a.rows) told-sums;
-      quarters-true = ap (λ (a : Reply). a.quarters) told-sums;
-      diversity-true = ap (λ (a : Reply). a.diversity) told-sums;
+      rows-true = ap (λ (a : Reply Figures). a.figures.rows) told-sums;
+      quarters-true = ap (λ (a : Reply Figures). a.figures.quarters) told-sums;
+      diversity-true = ap (λ (a : Reply Figures). a.figures.diversity) told-sums;
     }
 
     sheet-is : sheet ≡ over (rowsOf c.outline c.way (markedSet c)) c.sheet
     unfolding sheetAfter
     sheet-is = x.sheet-written ∙ rw passes
 
-    rows-are : length (rowsOf c.outline c.way (markedSet c)) ≡ 3 * r.rows
+    rows-are : length (rowsOf c.outline c.way (markedSet c)) ≡ 3 * r.figures.rows
     rows-are = rows-long c.outline c.way (markedSet c) ∙ ap (λ k. 3 * k) (sym adds-up.rows-true)
 
     -- the row of each chosen taxon
@@ -147,7 +134,7 @@ module _ (c : Call) {r : Reply} {sheet : List ℕ} (x : Answered c r sheet) wher
           kth-taxon c.outline (markedSet c) (size c.outline) k (omega arith)
           (omega (arith, adds-up.rows-true, ap (chosenTaxa c.outline) whole));
       rest =
-          ap (drop (3 * r.rows)) sheet-is ∙ over-past (rowsOf c.outline c.way (markedSet c)) c.sheet (3 * r.rows) rows-are;
+          ap (drop (3 * r.figures.rows)) sheet-is ∙ over-past (rowsOf c.outline c.way (markedSet c)) c.sheet (3 * r.figures.rows) rows-are;
     }
       where
         whole : take (size c.outline) (markedSet c) ≡ markedSet c
@@ -180,16 +167,16 @@ module _ (c : Call) (accepted : (checked c.outline).number ≡ 0) (known : (c.wa
       rw (way, accepted, le-ltb _ _ long, no-bad c.outline c.marks x, le-ltb _ _ room)
 
 -- a choice's marks are accepted as they are, and the sums are the choice's cost and diversity
-pub choice-listed : (c : choose.Call) {r : choose.Reply} {marks curve work : List ℕ} → choose.Answered c r marks curve work → r.number ≡ 0
-    → (d : Call) {t : Reply} {sheet : List ℕ} → Handed c r marks d → Answered d t sheet → t ≡ listed r.taxa r.cost r.diversity
+pub choice-listed : (c : choose.Call) {r : Reply choose.Figures} {marks curve work : List ℕ} → choose.Answered c r marks curve work → r.number ≡ 0
+    → (d : Call) {t : Reply Figures} {sheet : List ℕ} → Handed c r marks d → Answered d t sheet
+    → t ≡ granted (sums r.figures.taxa r.figures.cost r.figures.diversity)
 choice-listed c {r} {marks} x z d {t} h y =
-    let picked = told-selection c (sym (ap (λ (a : choose.Reply). a.number) x.told-reply) ∙ z) in
     let true_of = demand-2 c x z in
-    let taxa : chosenTaxa d.outline (markedSet d) ≡ r.taxa = rw (h.outline-is, h.marks-are) (sym true_of.taxa-true) in
-    let cost-is : cost d.outline (markedSet d) ≡ r.cost = rw (h.outline-is, h.marks-are) (sym true_of.cost-true) in
-    let diversity-is : diversity d.outline d.way (markedSet d) ≡ r.diversity =
+    let taxa : chosenTaxa d.outline (markedSet d) ≡ r.figures.taxa = rw (h.outline-is, h.marks-are) (sym true_of.taxa-true) in
+    let cost-is : cost d.outline (markedSet d) ≡ r.figures.cost = rw (h.outline-is, h.marks-are) (sym true_of.cost-true) in
+    let diversity-is : diversity d.outline d.way (markedSet d) ≡ r.figures.diversity =
     rw (h.outline-is, h.way-is, h.marks-are) (sym true_of.diversity-true) in
     let passes =
-    set-listed d (rw h.outline-is (selected-accepted c picked)) (rw h.way-is true_of.way-known)
+    set-listed d (rw h.outline-is (selected-accepted c (selected-row c x z))) (rw h.way-is true_of.way-known)
     (rw (h.outline-is, h.marks-are) (demand-3 c x z).marked-set) (omega (arith, h.room, taxa)) in
-    told-sums d y (number-is d y ∙ passes) ∙ rw (taxa, cost-is, diversity-is)
+    told-sums d y (told-zero d y passes) ∙ rw (taxa, cost-is, diversity-is)

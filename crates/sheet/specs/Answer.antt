@@ -1,6 +1,7 @@
 -- What a call of `sheet` is answered, and what it leaves in the sheet that it was lent.
-use Rattle.std.specs.Prelude.{if◌then◌else◌, ℕ, ◌-◌, ◌*◌, ◌≡◌, Bool, ◌||◌, ◌&&◌, not, List, [], ◌∷◌, length, get_or, take, eqb, ltb}
-use Rattle.refusals.specs.Refusals.{Ruling, ruling, refusal, row, rowAt, ◌▸◌, after}
+use Rattle.std.specs.Prelude.{ℕ, ◌-◌, ◌*◌, ◌≡◌, Bool, ◌||◌, ◌&&◌, not, List, [], ◌∷◌, length, get_or, take, eqb, ltb}
+use Rattle.refusals.specs.Refusals.{Ruling, refusal, row, rowAt, ◌▸◌, after}
+use Rattle.refusals.specs.Reply.{Reply, granted, refused, replied}
 use Rattle.outline.specs.Outline.{size, isTaxon}
 use Rattle.outline.specs.Answer.{checked}
 use Rattle.diversity.specs.Diversity.{diversity, cost, chosenTaxa}
@@ -17,33 +18,26 @@ pub record Call : Type 0 where
 abbrev pub call : List ℕ → ℕ → List ℕ → List ℕ → Call
 call outline way marks sheet = record { outline = outline; way = way; marks = marks; sheet = sheet }
 
--- the five numbers that a call is told: the last are the number of rows and both sums
-pub record Reply : Type 0 where
-  pub number : ℕ
-  pub place : ℕ
+-- what a listing tells: the number of rows and both sums
+pub record Figures : Type 0 where
   pub rows : ℕ
   pub quarters : ℕ
   pub diversity : ℕ
 
--- its number and place, and the others
-abbrev pub rulingOf : Reply → Ruling
-rulingOf r = ruling r.number r.place
+abbrev pub sums : ℕ → ℕ → ℕ → Figures
+sums rows quarters diversity = record { rows = rows; quarters = quarters; diversity = diversity }
 
-abbrev pub othersOf : Reply → List ℕ
-othersOf r = r.rows ∷ r.quarters ∷ r.diversity ∷ []
+-- on a refusal they are 0
+abbrev pub noFigures : Figures
+noFigures = sums 0 0 0
 
--- a refusal: the sums and rows are 0
-abbrev pub refused : Ruling → Reply
-refused t = record { number = t.number; place = t.place; rows = 0; quarters = 0; diversity = 0 }
-
--- no refusal, the number of rows and both sums
-abbrev pub listed : ℕ → ℕ → ℕ → Reply
-listed rows quarters diversity = record { number = 0; place = 0; rows = rows; quarters = quarters; diversity = diversity }
+abbrev pub numbersOf : Figures → List ℕ
+numbersOf f = f.rows ∷ f.quarters ∷ f.diversity ∷ []
 
 -- the numbers of each answer
-abbrev pub told : Answer → Reply
-told (Answer.Listed rows quarters diversity) = listed rows quarters diversity
-told (Answer.Refused e) = refused (refusal e)
+abbrev pub told : Answer → Reply Figures
+told (Answer.Listed rows quarters diversity) = granted (sums rows quarters diversity)
+told (Answer.Refused e) = refused noFigures (refusal e)
 
 -- the marked set: a mark for each record
 abbrev pub markedSet : Call → List ℕ
@@ -67,21 +61,21 @@ judged c =
     ▸ row 9 (ltb (length c.sheet) (sheetTaken c))
 
 -- the number of rows, one for each chosen taxon, and the sums of the two columns
-unfoldable pub listing : Call → Reply
-listing c =
+unfoldable pub figures : Call → Figures
+figures c =
     let o = c.outline in
     let s = markedSet c in
-    listed (chosenTaxa o s) (sumOf (cost o) o s) (sumOf (diversity o c.way) o s)
+    sums (chosenTaxa o s) (sumOf (cost o) o s) (sumOf (diversity o c.way) o s)
 
 -- what a call is told
-unfoldable pub reply : Call → Reply
-reply c = if eqb (judged c).number 0 then listing c else refused (judged c)
+unfoldable pub reply : Call → Reply Figures
+reply c = replied noFigures (judged c) (figures c)
 
 -- the sheet after a call: the rows where no row of the table holds, and the rest unchanged
 unfoldable pub sheetAfter : Call → List ℕ
 sheetAfter c = after (judged c) (rowsOf c.outline c.way (markedSet c)) c.sheet
 
 -- what a call ensures, of the numbers that it is told and of the sheet as it leaves it
-pub record Answered (c : Call) (r : Reply) (sheet : List ℕ) : Type 0 where
+pub record Answered (c : Call) (r : Reply Figures) (sheet : List ℕ) : Type 0 where
   pub told-reply : r ≡ reply c
   pub sheet-written : sheet ≡ sheetAfter c

@@ -2,6 +2,7 @@
 use Rattle.std.specs.Prelude.{if◌then◌else◌, ℕ, ◌+◌, ◌*◌, ◌-◌, ◌≤◌, ◌<◌, ◌≡◌, ◌⊎◌, ◌≢◌, Bool, true, ◌&&◌, not, List, [], ◌∷◌, ◌++◌, length, get_or, drop}
 use Rattle.lists.specs.Lists.{total}
 use Rattle.refusals.specs.Refusals.{passed}
+use Rattle.refusals.specs.Reply.{Reply, rulingOf}
 use Rattle.refusals.specs.Table.{Row, whole, lowestAt, Decided}
 use Rattle.outline.specs.Outline.{size, records, price, plate, IsRecord}
 use Rattle.outline.specs.Answer.{checked}
@@ -10,7 +11,7 @@ use Rattle.diversity.specs.Diversity.{chosen, diversity, cost, chosenTaxa}
 use Rattle.diversity.specs.Behind.{IsSet}
 use Rattle.diversity.specs.Headings.{opens}
 use Rattle.choice.specs.Answer as choose
-use Rattle.sheet.specs.Answer.{Call, Reply, rulingOf, othersOf, markedSet, badMark, sheetTaken}
+use Rattle.sheet.specs.Answer.{Call, Figures, numbersOf, markedSet, badMark, sheetTaken}
 use Rattle.sheet.specs.Sheet.{upTo}
 
 -- the table of a call, in the order in which it is judged: 1, the check's rows, 14 for too few marks, 14 for a bad one, 9
@@ -24,18 +25,18 @@ sheetTable c =
 
 -- demand 1: the set is listed, and no row of the table holds; or exactly one refusal of the table, under its condition only, and then
 -- rows and sums are 0, and the sheet is unchanged
-abbrev pub ListedOrRefused : Call → Reply → List ℕ → Type 1
-ListedOrRefused c r sheet = Decided (sheetTable c) (rulingOf r) (othersOf r) (c.sheet ∷ []) (sheet ∷ [])
+abbrev pub ListedOrRefused : Call → Reply Figures → List ℕ → Type 1
+ListedOrRefused c r sheet = Decided (sheetTable c) (rulingOf r) (numbersOf r.figures) (c.sheet ∷ []) (sheet ∷ [])
 
 -- the sheet adds up: what is marked is a set of taxa of an accepted outline, there is a row for each, and the sums are the set's cost
 -- and its diversity
-pub record AddsUp (c : Call) (r : Reply) : Type 0 where
+pub record AddsUp (c : Call) (r : Reply Figures) : Type 0 where
   pub accepted : checked c.outline ≡ passed
   pub way-known : (c.way ≡ 0) ⊎ (c.way ≡ 1)
   pub marked-set : IsSet c.outline (markedSet c)
-  pub rows-true : r.rows ≡ chosenTaxa c.outline (markedSet c)
-  pub quarters-true : r.quarters ≡ cost c.outline (markedSet c)
-  pub diversity-true : r.diversity ≡ diversity c.outline c.way (markedSet c)
+  pub rows-true : r.figures.rows ≡ chosenTaxa c.outline (markedSet c)
+  pub quarters-true : r.figures.quarters ≡ cost c.outline (markedSet c)
+  pub diversity-true : r.figures.diversity ≡ diversity c.outline c.way (markedSet c)
 
 -- group q has taxon r of the set below it, and none of those before r
 abbrev pub opensFirst : List ℕ → List ℕ → ℕ → ℕ → Bool
@@ -71,14 +72,14 @@ pub record After (o s : List ℕ) (k t : ℕ) : Type 0 where
   pub before : chosenTaxa o (upTo s (t - 1)) ≡ k
 
 -- each chosen taxon has its row, each row is a chosen taxon's, and what is past the rows is unchanged
-pub record RowsGiven (c : Call) (r : Reply) (sheet : List ℕ) : Type 0 where
+pub record RowsGiven (c : Call) (r : Reply Figures) (sheet : List ℕ) : Type 0 where
   pub row-true : (t : ℕ) → IsRecord c.outline t → chosen (markedSet c) t ≡ true → TrueRow c sheet t
-  pub each-row : (k : ℕ) → k < r.rows → (t : ℕ) × After c.outline (markedSet c) k t
-  pub rest : drop (3 * r.rows) sheet ≡ drop (3 * r.rows) c.sheet
+  pub each-row : (k : ℕ) → k < r.figures.rows → (t : ℕ) × After c.outline (markedSet c) k t
+  pub rest : drop (3 * r.figures.rows) sheet ≡ drop (3 * r.figures.rows) c.sheet
 
 -- a call of `sheet` is handed the outline and the way of a call of `choose`, the marks as that left them, and room for their rows
-pub record Handed (c : choose.Call) (r : choose.Reply) (marks : List ℕ) (d : Call) : Type 0 where
+pub record Handed (c : choose.Call) (r : Reply choose.Figures) (marks : List ℕ) (d : Call) : Type 0 where
   pub outline-is : d.outline ≡ c.outline
   pub way-is : d.way ≡ c.way
   pub marks-are : d.marks ≡ marks
-  pub room : 3 * r.taxa ≤ length d.sheet
+  pub room : 3 * r.figures.taxa ≤ length d.sheet

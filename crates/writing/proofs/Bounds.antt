@@ -8,13 +8,14 @@ use lib.Dec.{eqb}
 use lib.ListN.{length}
 use borrow.Author.Tests.{eqb-true, eq-eqb}
 use Rattle.refusals.specs.Refusals.{row, rowAt}
+use Rattle.refusals.proofs.Replies.{told-place, told-figures}
 use Rattle.refusals.proofs.Placed.{Placed, row-placed, row-at-placed, then-placed}
 use Rattle.outline.specs.Outline.{size}
 use Rattle.outline.specs.Answer.{checked}
 use Rattle.outline.proofs.WellFormed.{accepted-formed}
 use Rattle.outline.proofs.Placed.{checked-placed}
 use Rattle.writing.specs.Text.{outlineText, outlinePairs}
-use Rattle.writing.specs.Answer.{Call, Reply, refused, written, tooShort, judged, reply}
+use Rattle.writing.specs.Answer.{Call, Figures, tooShort, judged, reply}
 use Rattle.newick.specs.Trees.{unwritable}
 use Rattle.writing.proofs.OwnBytes.{mostWritten, text-few}
 use Rattle.writing.proofs.Priced.{pairs-count}
@@ -32,15 +33,12 @@ module _ (c : Call) where
       (λ _. row-placed mostRecords 9 (tooShort c) (omega arith)))
 
   -- the place is a record's, there are at most 10 bytes for each record and 8 more for each taxon, and at most a pair for each taxon
-  pub reply-few : ((reply c).place ≤ mostRecords) × ((reply c).bytes ≤ mostWritten) × ((reply c).pairs ≤ mostTaxa)
+  pub reply-few : ((reply c).place ≤ mostRecords) × ((reply c).figures.bytes ≤ mostWritten) × ((reply c).figures.pairs ≤ mostTaxa)
   unfolding reply
-  reply-few = go (eqb (judged c).number 0) refl
-    where
-      told : Bool → Reply
-      told b = if b then written (length (outlineText c.outline)) (length (outlinePairs c.outline) / 2) else refused (judged c)
-
-      go : (b : Bool) → eqb (judged c).number 0 ≡ b → ((told b).place ≤ mostRecords) × ((told b).bytes ≤ mostWritten) × ((told b).pairs ≤ mostTaxa)
-      go true e =
-          let plain = judged-plain c (eqb-true _ _ e) in
-          (omega arith, text-few plain, omega (arith, pairs-count c.outline plain.formed, plain.formed.taxa-most))
-      go false e = (judged-placed.place-most, omega arith, omega arith)
+  reply-few =
+      let few =
+      told-figures _ _ _ (λ (f : Figures). (f.bytes ≤ mostWritten) × (f.pairs ≤ mostTaxa)) (omega arith, omega arith)
+      (λ z.
+          let plain = judged-plain c z in
+          (text-few plain, omega (arith, pairs-count c.outline plain.formed, plain.formed.taxa-most)))
+      in (told-place _ _ _ judged-placed.place-most, few.0, few.1)

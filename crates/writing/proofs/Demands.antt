@@ -11,9 +11,11 @@ use borrow.Author.Tests.{eqb-true, eq-eqb, ne_eqb, le-ltb}
 use Rattle.lists.specs.Lists.{from, lowest, over}
 use Rattle.lists.proofs.Buffers.{over-taken, over-past}
 use Rattle.lists.proofs.Walk.{lowest-none}
-use Rattle.refusals.specs.Refusals.{Ruling, ruling, passed, refusal, row, rowAt, ◌▸◌}
+use Rattle.refusals.specs.Refusals.{Ruling, ruling, passed, row, rowAt, ◌▸◌}
+use Rattle.refusals.specs.Reply.{Reply, rulingOf, granted}
 use Rattle.refusals.specs.Table.{FirstRow, here, later, Gives, gives-none, gives-first}
-use Rattle.refusals.proofs.Refusals.{refusal-numbered, refusal-determined, both-pass, row-at-fails}
+use Rattle.refusals.proofs.Refusals.{both-pass, row-at-fails}
+use Rattle.refusals.proofs.Replies.{ruling-told, decided, granted-apart, refused-determined}
 use Rattle.refusals.proofs.Tests.{decides-less, decides-either}
 use Rattle.refusals.proofs.Tables.{gives-then, gives-passed, gives-whole, gives-lowest}
 use Rattle.outline.specs.Outline.{size, plate}
@@ -23,7 +25,7 @@ use Rattle.outline.proofs.WellFormed.{accepted-formed}
 use Rattle.outline.proofs.Demands.{checked-gives}
 use Rattle.reading.specs.Demands.{Pair}
 use Rattle.writing.specs.Text.{outlineText, outlinePairs}
-use Rattle.writing.specs.Answer.{Call, Reply, rulingOf, refused, written, told, tooShort, judged, reply, textAfter, pairsAfter, Answered}
+use Rattle.writing.specs.Answer.{Call, Figures, numbersOf, told, figures, tooShort, judged, reply, textAfter, pairsAfter, Answered}
 use Rattle.newick.specs.Trees.{unwritable}
 use Rattle.writing.specs.Demands.{writeTable, WrittenOrRefused, TextGiven, HasRoom}
 use Rattle.writing.specs.declared.writer.Answer.{Answer}
@@ -37,14 +39,10 @@ use Rattle.outline.specs.Rules.{taxa}
 -- the numbers told determine the answer
 pub told-determined : (a b : Answer) → told a ≡ told b → a ≡ b
 told-determined (Answer.Written b k) (Answer.Written d l) h =
-    rw (ap (λ (r : Reply). r.bytes) h, ap (λ (r : Reply). r.pairs) h)
-told-determined (Answer.Written b k) (Answer.Refused e) h =
-    let z : 0 ≡ (refusal e).number = ap (λ (r : Reply). r.number) h in
-    absurd (omega (arith, refusal-numbered e))
-told-determined (Answer.Refused d) (Answer.Written b k) h =
-    let z : (refusal d).number ≡ 0 = ap (λ (r : Reply). r.number) h in
-    absurd (omega (arith, refusal-numbered d))
-told-determined (Answer.Refused d) (Answer.Refused e) h = ap Answer.Refused (refusal-determined d e (ap rulingOf h))
+    rw (ap (λ (r : Reply Figures). r.figures.bytes) h, ap (λ (r : Reply Figures). r.figures.pairs) h)
+told-determined (Answer.Written b k) (Answer.Refused e) h = absurd (granted-apart e h)
+told-determined (Answer.Refused d) (Answer.Written b k) h = absurd (granted-apart d (sym h))
+told-determined (Answer.Refused d) (Answer.Refused e) h = ap Answer.Refused (refused-determined d e h)
 
 -- ---- what a call is judged is what its table gives
 module _ (c : Call) where
@@ -54,15 +52,6 @@ module _ (c : Call) where
       gives-then (checked-gives c.outline)
       (gives-then (gives-lowest 12 (size c.outline) (unwritable c.outline))
       (gives-whole 8 (decides-either (decides-less _ _) (decides-less _ _))))
-
-  reply-told : rulingOf (reply c) ≡ judged c
-  unfolding reply
-  reply-told = go (eqb (judged c).number 0) refl
-    where
-      go : (b : Bool) → eqb (judged c).number 0 ≡ b
-          → rulingOf (if b then written (length (outlineText c.outline)) (length (outlinePairs c.outline) / 2) else refused (judged c)) ≡ judged c
-      go true e = sym (gives-passed judged-gives (eqb-true _ _ e))
-      go false e = refl
 
   -- where no row holds, none of the first does
   judged-passes : (judged c).number ≡ 0 → ((checked c.outline).number ≡ 0) × (lowest (unwritable c.outline) (from 1 (size c.outline)) ≡ 0)
@@ -106,25 +95,23 @@ never-nine o = given (checked-gives o)
     given (gives-first l f only) e = first f e
 
 -- ---- the promises
-module _ (c : Call) {r : Reply} {text pairs : List ℕ} (x : Answered c r text pairs) where
-  is-told : rulingOf r ≡ judged c
-  is-told = ap rulingOf x.told-reply ∙ reply-told c
+module _ (c : Call) {r : Reply Figures} {text pairs : List ℕ} (x : Answered c r text pairs) where
+  ruling-is : rulingOf r ≡ judged c
+  unfolding reply
+  ruling-is = ap rulingOf x.told-reply ∙ ruling-told _ _ _ (judged-gives c)
 
   pub number-is : r.number ≡ (judged c).number
-  number-is = ap (λ (t : Ruling). t.number) is-told
+  number-is = ap (λ (t : Ruling). t.number) ruling-is
 
   -- demand 1: an outline is written, or exactly one refusal of the table, under its condition only; a refusal changes neither buffer
   pub demand-1 : WrittenOrRefused c r text pairs
   unfolding reply textAfter pairsAfter
   demand-1 =
-      record {
-        given = rw is-told (judged-gives c);
-        others-zero = λ h. rw (x.told-reply, ne_eqb (judged c).number 0 (λ z. omega (arith, number-is)));
-        unchanged = λ h. rw (x.text-written, x.pairs-written, ne_eqb (judged c).number 0 (λ z. omega (arith, number-is)));
-      }
+      decided _ _ _ numbersOf refl (judged-gives c) x.told-reply
+      (λ h. rw (x.text-written, x.pairs-written, ne_eqb (judged c).number 0 (λ z. omega arith)))
 
   -- where number 0 is given, the counts are those of the outline's text and of its pairs
-  pub told-counts : r.number ≡ 0 → r ≡ written (length (outlineText c.outline)) (length (outlinePairs c.outline) / 2)
+  pub told-counts : r.number ≡ 0 → r ≡ granted (figures c)
   unfolding reply
   told-counts z = let none : (judged c).number ≡ 0 = sym number-is ∙ z in x.told-reply ∙ rw none
 
@@ -135,27 +122,27 @@ module _ (c : Call) {r : Reply} {text pairs : List ℕ} (x : Answered c r text p
       let o = c.outline in
       let none : (judged c).number ≡ 0 = sym number-is ∙ z in
       let plain = judged-plain c none in
-      let bytes-are : r.bytes ≡ length (outlineText o) = ap (λ (a : Reply). a.bytes) (told-counts z) in
-      let half : r.pairs ≡ length (outlinePairs o) / 2 = ap (λ (a : Reply). a.pairs) (told-counts z) in
-      let twice : length (outlinePairs o) ≡ 2 * r.pairs = omega (arith, pairs-count o plain.formed) in
+      let bytes-are : r.figures.bytes ≡ length (outlineText o) = ap (λ (a : Reply Figures). a.figures.bytes) (told-counts z) in
+      let half : r.figures.pairs ≡ length (outlinePairs o) / 2 = ap (λ (a : Reply Figures). a.figures.pairs) (told-counts z) in
+      let twice : length (outlinePairs o) ≡ 2 * r.figures.pairs = omega (arith, pairs-count o plain.formed) in
       let text-now : text ≡ over (outlineText o) c.text = x.text-written ∙ rw none in
       let pairs-now : pairs ≡ over (outlinePairs o) c.pairs = x.pairs-written ∙ rw none in
-      let text-is : take r.bytes text ≡ outlineText o = ap (take r.bytes) text-now ∙ over-taken (outlineText o) c.text r.bytes (sym bytes-are) in
-      let pairs-are : take (2 * r.pairs) pairs ≡ outlinePairs o =
-      ap (take (2 * r.pairs)) pairs-now ∙ over-taken (outlinePairs o) c.pairs (2 * r.pairs) twice in
+      let text-is : take r.figures.bytes text ≡ outlineText o = ap (take r.figures.bytes) text-now ∙ over-taken (outlineText o) c.text r.figures.bytes (sym bytes-are) in
+      let pairs-are : take (2 * r.figures.pairs) pairs ≡ outlinePairs o =
+      ap (take (2 * r.figures.pairs)) pairs-now ∙ over-taken (outlinePairs o) c.pairs (2 * r.figures.pairs) twice in
       record {
         accepted = gives-passed (checked-gives o) (judged-passes c none).0;
         bytes-are = bytes-are;
         text-is = text-is;
         spelled = rw text-is (text-spells (tree-in-range plain) (text-short plain));
-        text-rest = ap (drop r.bytes) text-now ∙ over-past (outlineText o) c.text r.bytes (sym bytes-are);
+        text-rest = ap (drop r.figures.bytes) text-now ∙ over-past (outlineText o) c.text r.figures.bytes (sym bytes-are);
         one-each = omega (arith, pairs-count o plain.formed);
         pairs-are = pairs-are;
         in-order = rw pairs-are (pairs-tree o plain.formed);
         own-price = λ q i e. rw pairs-are
             (subst (λ p. Pair (plate o q) p (outlinePairs o)) (own-price o plain.formed q i e)
             (priced (outlinePairs o) (plate o q) (one-pair o plain.formed q i e)));
-        pairs-rest = ap (drop (2 * r.pairs)) pairs-now ∙ over-past (outlinePairs o) c.pairs (2 * r.pairs) twice;
+        pairs-rest = ap (drop (2 * r.figures.pairs)) pairs-now ∙ over-past (outlinePairs o) c.pairs (2 * r.figures.pairs) twice;
       }
 
   -- ten bytes for each record, eight more for each taxon, and a pair for each taxon are always enough

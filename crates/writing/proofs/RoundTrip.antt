@@ -11,6 +11,7 @@ use Rattle.lists.specs.Lists.{from, lowest, over, Bytes}
 use Rattle.lists.proofs.Buffers.{over-taken}
 use Rattle.lists.proofs.Walk.{lowest-holds, anywhere-none}
 use Rattle.refusals.specs.Refusals.{Ruling, passed}
+use Rattle.refusals.specs.Reply.{Reply, granted}
 use Rattle.refusals.proofs.Refusals.{both-pass}
 use Rattle.refusals.proofs.Tables.{gives-passed}
 use Rattle.outline.specs.Outline.{size, records}
@@ -28,7 +29,7 @@ use Rattle.newick.specs.Pairs.{priceIn}
 use Rattle.newick.specs.Parsing.{tree, parsed}
 use Rattle.writing.specs.Text.{outlineText, outlinePairs}
 use Rattle.newick.specs.Trees.{treeOf}
-use Rattle.writing.specs.Answer.{Call, Reply, judged, Answered}
+use Rattle.writing.specs.Answer.{Call, Figures, judged, Answered}
 use Rattle.newick.specs.Trees.{unwritable}
 use Rattle.writing.specs.Demands.{Handed, Returned, GivenBack, HasRoom, WroteAlike}
 use Rattle.reading.proofs.Answers.{layout-size}
@@ -73,19 +74,19 @@ module _ (o : List ℕ) (plain : Plain o) (small : Bytes o) (accepted : checked 
         same-layout,
       ) fields
 
-  back : {c : read.Call} {r : read.Reply} {outline : List ℕ} → parsed c.text ≡ tree (treeOf o) → c.pairs ≡ outlinePairs o
+  back : {c : read.Call} {r : Reply read.Figures} {outline : List ℕ} → parsed c.text ≡ tree (treeOf o) → c.pairs ≡ outlinePairs o
       → length o ≤ length c.outline → read.Answered c r outline → GivenBack o c r outline
   unfolding read.judged read.reply read.outlineAfter
   back {c} e f long x =
       let none = rows-pass (length c.outline) long in
       record {
-        told-size = x.told-reply ∙ rw (e, f, none) (ap read.accepted tree-size);
+        told-size = x.told-reply ∙ rw (e, f, none) (ap (λ n. granted (read.counted n)) tree-size);
         same-bytes = x.outline-written ∙ rw (e, f, none) (ap (λ p. over p c.outline) same-layout);
       }
 
 -- of calls: what was written is handed to a call of `read`, with a buffer that suffices
-pub same-bytes : {c : Call} {r : Reply} {text pairs : List ℕ} → Answered c r text pairs → r.number ≡ 0 → InTextOrder c.outline
-    → {d : read.Call} {s : read.Reply} {outline : List ℕ} → Handed r text pairs d → length c.outline ≤ length d.outline
+pub same-bytes : {c : Call} {r : Reply Figures} {text pairs : List ℕ} → Answered c r text pairs → r.number ≡ 0 → InTextOrder c.outline
+    → {d : read.Call} {s : Reply read.Figures} {outline : List ℕ} → Handed r text pairs d → length c.outline ≤ length d.outline
     → read.Answered d s outline → GivenBack c.outline d s outline
 same-bytes {c} x z order {d} h long y =
     let given = text-given c x z in
@@ -114,20 +115,20 @@ layout-settled cost t range accepted =
       plain = record { formed = formed; writable = λ r i. anywhere-none (unwritable o) (count t) grown.writable r i.low (omega (arith, i.high)) };
     }
 
-module _ {c : read.Call} {r : read.Reply} {outline : List ℕ} (x : read.Answered c r outline) (z : r.number ≡ 0) where
+module _ {c : read.Call} {r : Reply read.Figures} {outline : List ℕ} (x : read.Answered c r outline) (z : r.number ≡ 0) where
   given : TreeGiven c r outline
   given = tree-given c x z
 
-  settled : Settled given.tree (take (16 * r.records) outline)
+  settled : Settled given.tree (take (16 * r.figures.records) outline)
   settled =
       let accepted = rw given.begins at given.accepted in
       rw given.begins (layout-settled (priceIn c.pairs) given.tree (spells-in-range given.spelled) accepted)
 
   -- it stands in text order, and has the tree that the text spells
-  pub read-order : InTextOrder (take (16 * r.records) outline)
+  pub read-order : InTextOrder (take (16 * r.figures.records) outline)
   read-order = settled.order
 
-  pub read-tree : (t : Tree part) → Spells t c.text → treeOf (take (16 * r.records) outline) ≡ t
+  pub read-tree : (t : Tree part) → Spells t c.text → treeOf (take (16 * r.figures.records) outline) ≡ t
   read-tree t s = settled.tree-is ∙ sym (given.only t s)
 
   -- nothing but too little room stops a writing of it
@@ -135,7 +136,7 @@ module _ {c : read.Call} {r : read.Reply} {outline : List ℕ} (x : read.Answere
     returned : Settled given.tree w.outline
     returned = rw ret settled
 
-    pub read-written : {s : Reply} {text pairs : List ℕ} → Answered w s text pairs → HasRoom (length (outlineText w.outline)) (taxa w.outline) w
+    pub read-written : {s : Reply Figures} {text pairs : List ℕ} → Answered w s text pairs → HasRoom (length (outlineText w.outline)) (taxa w.outline) w
         → s.number ≡ 0
     unfolding judged
     read-written y room =
@@ -145,31 +146,31 @@ module _ {c : read.Call} {r : read.Reply} {outline : List ℕ} (x : read.Answere
         number-is w y ∙ rw (accepted, writable-nowhere plain, roomy w room.for-text fits)
 
     -- what was read and written is read again, and is the same outline
-    pub read-again : {s : Reply} {text pairs : List ℕ} → Answered w s text pairs → s.number ≡ 0
-        → {d : read.Call} {u : read.Reply} {again : List ℕ} → Handed s text pairs d → length w.outline ≤ length d.outline
+    pub read-again : {s : Reply Figures} {text pairs : List ℕ} → Answered w s text pairs → s.number ≡ 0
+        → {d : read.Call} {u : Reply read.Figures} {again : List ℕ} → Handed s text pairs d → length w.outline ≤ length d.outline
         → read.Answered d u again → GivenBack w.outline d u again
     read-again y e = same-bytes y e returned.order
 
 -- from any accepted text, a second writing equals the first: what was read is written, read again, and written again
-pub second-writing : {c d : read.Call} {r q : read.Reply} {outline again : List ℕ} {w v : Call} {s u : Reply} {text pairs text' pairs' : List ℕ}
+pub second-writing : {c d : read.Call} {r q : Reply read.Figures} {outline again : List ℕ} {w v : Call} {s u : Reply Figures} {text pairs text' pairs' : List ℕ}
     → read.Answered c r outline → r.number ≡ 0
     → Returned r outline w → Answered w s text pairs → s.number ≡ 0
     → Handed s text pairs d → length w.outline ≤ length d.outline → read.Answered d q again
-    → Returned q again v → HasRoom s.bytes s.pairs v → Answered v u text' pairs'
+    → Returned q again v → HasRoom s.figures.bytes s.figures.pairs v → Answered v u text' pairs'
     → WroteAlike s text pairs u text' pairs'
 second-writing {r = r} {q = q} {outline = outline} {w = w} {v = v} {s = s} x z ret y e h long p ret' room y' =
     let back = read-again x z w ret y e h long p in
     let first = text-given w y e in
-    let many : q.records ≡ size w.outline = ap (λ (a : read.Reply). a.records) back.told-size in
-    let whole : length w.outline ≡ 16 * q.records = omega (arith, (returned x z w ret).plain.formed.whole) in
+    let many : q.figures.records ≡ size w.outline = ap (λ (a : Reply read.Figures). a.figures.records) back.told-size in
+    let whole : length w.outline ≡ 16 * q.figures.records = omega (arith, (returned x z w ret).plain.formed.whole) in
     let same : v.outline ≡ w.outline =
-    ret' ∙ ap (take (16 * q.records)) back.same-bytes ∙ over-taken w.outline _ (16 * q.records) whole in
+    ret' ∙ ap (take (16 * q.figures.records)) back.same-bytes ∙ over-taken w.outline _ (16 * q.figures.records) whole in
     let enough : HasRoom (length (outlineText v.outline)) (taxa v.outline) v =
     record {
       for-text = rw same (omega (arith, first.bytes-are, room.for-text));
       for-pairs = rw same (omega (arith, first.one-each, room.for-pairs));
     } in
-    let zero = read-written p (ap (λ (a : read.Reply). a.number) back.told-size) v ret' y' enough in
+    let zero = read-written p (ap (λ (a : Reply read.Figures). a.number) back.told-size) v ret' y' enough in
     let second = text-given v y' zero in
     record {
       told-alike = told-counts v y' zero ∙ rw same (sym (told-counts w y e));

@@ -1,7 +1,8 @@
 -- What a call of `write` is answered, and what it leaves in the two buffers that it was lent.
-use Rattle.std.specs.Prelude.{if◌then◌else◌, ℕ, ◌/◌, ◌≡◌, Bool, ◌||◌, List, [], ◌∷◌, length, eqb, ltb}
+use Rattle.std.specs.Prelude.{ℕ, ◌/◌, ◌≡◌, Bool, ◌||◌, List, [], ◌∷◌, length, ltb}
 use Rattle.lists.specs.Lists.{Bytes}
-use Rattle.refusals.specs.Refusals.{Ruling, ruling, refusal, row, rowAt, ◌▸◌, after}
+use Rattle.refusals.specs.Refusals.{Ruling, refusal, row, rowAt, ◌▸◌, after}
+use Rattle.refusals.specs.Reply.{Reply, granted, refused, replied}
 use Rattle.outline.specs.Outline.{size}
 use Rattle.outline.specs.Answer.{checked}
 use Rattle.newick.specs.Trees.{unwritable}
@@ -17,32 +18,25 @@ pub record Call : Type 0 where
 abbrev pub call : List ℕ → List ℕ → List ℕ → Call
 call outline text pairs = record { outline = outline; text = text; pairs = pairs }
 
--- the four numbers that a call is told: the last are the counts of bytes and of pairs
-pub record Reply : Type 0 where
-  pub number : ℕ
-  pub place : ℕ
+-- what a writing tells: the counts of bytes and of pairs
+pub record Figures : Type 0 where
   pub bytes : ℕ
   pub pairs : ℕ
 
--- its number and place, and the others
-abbrev pub rulingOf : Reply → Ruling
-rulingOf r = ruling r.number r.place
-
-abbrev pub othersOf : Reply → List ℕ
-othersOf r = r.bytes ∷ r.pairs ∷ []
+abbrev pub counts : ℕ → ℕ → Figures
+counts bytes pairs = record { bytes = bytes; pairs = pairs }
 
 -- a refusal gives the counts as 0
-abbrev pub refused : Ruling → Reply
-refused t = record { number = t.number; place = t.place; bytes = 0; pairs = 0 }
+abbrev pub noFigures : Figures
+noFigures = counts 0 0
 
--- no refusal, and the counts
-abbrev pub written : ℕ → ℕ → Reply
-written bytes pairs = record { number = 0; place = 0; bytes = bytes; pairs = pairs }
+abbrev pub numbersOf : Figures → List ℕ
+numbersOf f = f.bytes ∷ f.pairs ∷ []
 
 -- the numbers of each answer
-abbrev pub told : Answer → Reply
-told (Answer.Written bytes pairs) = written bytes pairs
-told (Answer.Refused e) = refused (refusal e)
+abbrev pub told : Answer → Reply Figures
+told (Answer.Written bytes pairs) = granted (counts bytes pairs)
+told (Answer.Refused e) = refused noFigures (refusal e)
 
 -- refusal 9: the buffer for the text or for the pairs is short
 unfoldable pub tooShort : Call → Bool
@@ -57,12 +51,13 @@ judged c =
     ▸ rowAt 13 (unwritable c.outline) (size c.outline)
     ▸ row 9 (tooShort c)
 
--- what a call is told; a pair is two numbers
-unfoldable pub reply : Call → Reply
-reply c =
-    if eqb (judged c).number 0
-    then written (length (outlineText c.outline)) (length (outlinePairs c.outline) / 2)
-    else refused (judged c)
+-- the counts of what is written; a pair is two numbers
+abbrev pub figures : Call → Figures
+figures c = counts (length (outlineText c.outline)) (length (outlinePairs c.outline) / 2)
+
+-- what a call is told
+unfoldable pub reply : Call → Reply Figures
+reply c = replied noFigures (judged c) (figures c)
 
 -- the buffers after a call: written where no row holds, and what is past the text and the pairs is unchanged
 unfoldable pub textAfter : Call → List ℕ
@@ -73,7 +68,7 @@ pairsAfter c = after (judged c) (outlinePairs c.outline) c.pairs
 
 -- what a call ensures, of the numbers that it is told and of the buffers as it leaves them; and that its outline is bytes, as every
 -- `&[u8]` is
-pub record Answered (c : Call) (r : Reply) (text pairs : List ℕ) : Type 0 where
+pub record Answered (c : Call) (r : Reply Figures) (text pairs : List ℕ) : Type 0 where
   pub told-reply : r ≡ reply c
   pub text-written : text ≡ textAfter c
   pub pairs-written : pairs ≡ pairsAfter c

@@ -1,6 +1,7 @@
 -- `listing::taxa::put_sheet` meets its contract: the set is listed, and the lines come from its sheet.
 use Rattle.std.proofs.Common.{◌≡◌, ℕ, List, [], ◌∷◌, ◌++◌, replicate, arith, subst}
-use Rattle.sheet.specs.Answer.{Call, call, Reply, Answered, judged, markedSet}
+use Rattle.refusals.specs.Reply.{Reply}
+use Rattle.sheet.specs.Answer.{Call, call, Figures, Answered, judged, markedSet}
 use Rattle.text.specs.Text.{labelled}
 use Rattle.text.specs.Written.{LongEnough}
 use Rattle.text.proofs.Writing.{Left, left-starts, left-fits, left-goes, left-last}
@@ -10,9 +11,9 @@ use Rattle.listing.proofs.Answers.{sheet-lines, rows-inside, not-refused}
 use Rattle.listing.proofs.taxa.put_sheet.Goals as goal
 
 -- the lines are yet to be written
-begun : (c : Call) {r : Reply} {at : ℕ} {lent buffer : List ℕ} → Answered c r lent → (judged c).number ≡ 0
+begun : (c : Call) {r : Reply Figures} {at : ℕ} {lent buffer : List ℕ} → Answered c r lent → (judged c).number ≡ 0
     → LongEnough at (sheetText c.outline c.way (markedSet c)) buffer
-    → Left at (sheetText c.outline c.way (markedSet c)) buffer at (taxaText lent r.rows ++ labelled totalWord (r.quarters ∷ r.diversity ∷ [])) buffer
+    → Left at (sheetText c.outline c.way (markedSet c)) buffer at (taxaText lent r.figures.rows ++ labelled totalWord (r.figures.quarters ∷ r.figures.diversity ∷ [])) buffer
 begun c {at = at} {buffer = buffer} x passes h =
     let whole = sheetText c.outline c.way (markedSet c) in
     subst (λ t. Left at whole buffer at t buffer) (sheet-lines c x passes) (left-starts h)
