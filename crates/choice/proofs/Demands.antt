@@ -1,10 +1,9 @@
 -- The mission's three demands, for every call: what the contract of `choose` says of the answer and the buffers is what they ask.
-use Rattle.std.specs.Prelude.{if◌then◌else◌}
 use Prim.Native.Nat.{ℕ, ◌+◌, ◌-◌, ◌≤◌}
 use mathlib.Core.Path.{◌≡◌, refl, sym, ap, ◌∙◌}
 use mathlib.Core.Bool.{Bool, true, false}
 use mathlib.Core.Logic.Iff
-use mathlib.Core.List.{List, [], ◌∷◌}
+use mathlib.Core.List.{List}
 use native.Mathlib.Omega.{arith}
 use lib.Dec.{leb}
 use lib.Seq.{take_at}
@@ -74,8 +73,8 @@ module _ (c : Call) {r : Reply Figures} {marks curve work : List ℕ} (x : Answe
   demand-1 =
       decided _ _ _ numbersOf refl (judged-gives c) x.told-reply
       (λ h.
-          let off : isSelected c ≡ false = ne_eqb (judged c).number 0 (λ z. omega arith) in
-          rw (x.marks-written, x.curve-written, x.work-cleared, off))
+      let off : isSelected c ≡ false = ne_eqb (judged c).number 0 (λ z. omega arith) in
+      rw (x.marks-written, x.curve-written, x.work-cleared, off))
 
   -- where the number told is 0, it is a selection
   module _ (z : r.number ≡ 0) where

@@ -1,13 +1,12 @@
 -- How large the numbers of a reply are: the place and N are at most the number of the last record that an outline may have.
-use Rattle.std.specs.Prelude.{if◌then◌else◌}
 use Prim.Native.Nat.{ℕ, ◌*◌, ◌%◌, ◌≤◌}
-use mathlib.Core.Path.{◌≡◌, refl, ap}
-use mathlib.Core.Bool.{Bool, true, false}
+use mathlib.Core.Path.{◌≡◌, ap}
+use mathlib.Core.Bool.{true}
 use mathlib.Core.List.{List}
 use native.Mathlib.Omega.{arith}
-use lib.Dec.{eqb, ltb}
+use lib.Dec.{ltb}
 use lib.ListN.{length}
-use borrow.Author.Tests.{eqb-true, eq-eqb, ne_eqb, le-ltb, ltb-false}
+use borrow.Author.Tests.{eq-eqb, ne_eqb, le-ltb, ltb-false}
 use Rattle.refusals.specs.Refusals.{Ruling, passed, row}
 use Rattle.refusals.proofs.Placed.{Placed, row-placed, then-placed}
 use Rattle.refusals.proofs.Refusals.{both-pass, row-fails}

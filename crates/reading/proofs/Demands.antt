@@ -1,14 +1,13 @@
 -- What is promised of every call: what the contract of `read` says of the answer and the outline is what the words ask.
-use Rattle.std.specs.Prelude.{if◌then◌else◌}
 use Prim.Native.Nat.{ℕ, ◌*◌}
 use mathlib.Core.Path.{◌≡◌, refl, sym, ap, subst, ◌∙◌}
 use mathlib.Core.Logic.{◌↔◌}
 use mathlib.Core.Bool.{Bool, true, false, false≢true}
 use mathlib.Core.List.{List}
 use native.Mathlib.Omega.{arith}
-use lib.Dec.{eqb, ltb}
+use lib.Dec.{ltb}
 use lib.ListN.{length, take, drop}
-use borrow.Author.Tests.{eqb-true, ne_eqb, ltb-false}
+use borrow.Author.Tests.{ne_eqb, ltb-false}
 use Rattle.lists.specs.Lists.{over}
 use Rattle.lists.proofs.Buffers.{over-taken, over-past}
 use Rattle.refusals.specs.Refusals.{Ruling, passed, row}

@@ -7,7 +7,7 @@ use mathlib.Core.List.{List}
 use native.Mathlib.Omega.{arith}
 use lib.Dec.{eqb}
 use lib.ListN.{length, replicate}
-use borrow.Author.Tests.{eq-eqb, ne_eqb, eqb-true, eqb-false}
+use borrow.Author.Tests.{eq-eqb, ne_eqb, eqb-true}
 use Rattle.refusals.specs.Refusals.{Ruling, refusal}
 use Rattle.refusals.specs.Reply.{Reply, rulingOf, granted, refused, replied}
 use Rattle.refusals.specs.Table.{Row, Gives, Decided}

@@ -1,5 +1,4 @@
 -- What a call keeps that no row of the table refuses, the two ways to answer it, and how large the numbers of a refusal are.
-use Rattle.std.specs.Prelude.{if◌then◌else◌}
 use Prim.Native.Nat.{ℕ, ◌-◌, ◌≤◌}
 use mathlib.Core.Path.{◌≡◌, refl, sym}
 use mathlib.Core.Logic.{◌⊎◌, inl, inr}

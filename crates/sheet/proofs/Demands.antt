@@ -1,15 +1,14 @@
 -- What is promised of every call of `sheet`: what its contract says of the answer and the sheet is what the words ask.
-use Rattle.std.specs.Prelude.{if◌then◌else◌}
 use Prim.Native.Nat.{ℕ, zero, suc, ◌+◌, ◌*◌, ◌-◌, ◌≤◌, ◌<◌}
 use mathlib.Core.Path.{◌≡◌, refl, sym, ap, subst, ◌∙◌}
 use mathlib.Core.Logic.{◌⊎◌, ⊎_elim}
-use mathlib.Core.Bool.{Bool, true, false, ◌||◌, ◌&&◌, not}
+use mathlib.Core.Bool.{true, false, ◌||◌, ◌&&◌, not}
 use mathlib.Core.List.{List}
 use native.Mathlib.Omega.{arith}
 use lib.Dec.{eqb, ltb}
 use lib.ListN.{length, get_or, take, drop, length-take}
 use lib.Seq.{get_or-take, take_all}
-use borrow.Author.Tests.{eqb-true, ne_eqb, le-ltb}
+use borrow.Author.Tests.{ne_eqb, le-ltb}
 use Rattle.lists.specs.Lists.{from, lowest, over}
 use Rattle.lists.proofs.Buffers.{over-past}
 use Rattle.lists.proofs.Walk.{none-lowest}

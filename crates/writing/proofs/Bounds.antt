@@ -1,12 +1,7 @@
 -- How large the numbers of a reply of `write` are.
-use Rattle.std.specs.Prelude.{if◌then◌else◌}
-use Prim.Native.Nat.{◌/◌, ◌≤◌}
-use mathlib.Core.Path.{◌≡◌, refl}
-use mathlib.Core.Bool.{Bool, true, false}
+use Prim.Native.Nat.{◌≤◌}
 use native.Mathlib.Omega.{arith}
-use lib.Dec.{eqb}
-use lib.ListN.{length}
-use borrow.Author.Tests.{eqb-true, eq-eqb}
+use borrow.Author.Tests.{eq-eqb}
 use Rattle.refusals.specs.Refusals.{row, rowAt}
 use Rattle.refusals.proofs.Replies.{told-place, told-figures}
 use Rattle.refusals.proofs.Placed.{Placed, row-placed, row-at-placed, then-placed}
@@ -14,7 +9,6 @@ use Rattle.outline.specs.Outline.{size}
 use Rattle.outline.specs.Answer.{checked}
 use Rattle.outline.proofs.WellFormed.{accepted-formed}
 use Rattle.outline.proofs.Placed.{checked-placed}
-use Rattle.writing.specs.Text.{outlineText, outlinePairs}
 use Rattle.writing.specs.Answer.{Call, Figures, tooShort, judged, reply}
 use Rattle.newick.specs.Trees.{unwritable}
 use Rattle.writing.proofs.OwnBytes.{mostWritten, text-few}
@@ -39,6 +33,6 @@ module _ (c : Call) where
       let few =
       told-figures _ _ _ (λ (f : Figures). (f.bytes ≤ mostWritten) × (f.pairs ≤ mostTaxa)) (omega arith, omega arith)
       (λ z.
-          let plain = judged-plain c z in
-          (text-few plain, omega (arith, pairs-count c.outline plain.formed, plain.formed.taxa-most)))
+      let plain = judged-plain c z in
+      (text-few plain, omega (arith, pairs-count c.outline plain.formed, plain.formed.taxa-most)))
       in (told-place _ _ _ judged-placed.place-most, few.0, few.1)
