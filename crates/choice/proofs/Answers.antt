@@ -1,31 +1,27 @@
--- What a call keeps that no row of the table refuses, and the two ways to answer a call.
+-- What a call keeps that no row of the table refuses, and the two ways to answer it.
 use Prim.Native.Nat.{ℕ, ◌≤◌}
 use mathlib.Core.Path.{◌≡◌, refl, sym, ◌∙◌}
 use mathlib.Core.Logic.{◌⊎◌, inl, inr}
 use mathlib.Core.Bool.{Bool, true, false, ◌&&◌, not, false≢true}
 use mathlib.Core.List.{List, ◌++◌}
 use native.Mathlib.Omega.{arith}
-use lib.Dec.{eqb, ltb}
+use lib.Dec.{eqb}
 use lib.ListN.{length, take, drop, length-replicate}
 use lib.Seq.{length-take-le}
 use borrow.Author.Tests.{ltb-false, eqb-true}
 use Rattle.lists.specs.Lists.{over}
 use Rattle.lists.proofs.Bools.{both-false}
-use Rattle.refusals.specs.Refusals.{refusal, row}
+use Rattle.refusals.specs.Refusals.{refusal}
 use Rattle.refusals.specs.declared.verdict.Refusal.{Refusal}
 use Rattle.refusals.proofs.Refusals.{both-pass, row-fails, refusal-not-zero}
-use Rattle.refusals.proofs.Placed.{Placed, row-placed, then-placed}
-use Rattle.refusals.proofs.Replies.{told-place}
 use Rattle.outline.specs.Answer.{sizeRows, recordRows, checked}
 use Rattle.outline.proofs.WellFormed.{rows-kept}
-use Rattle.outline.proofs.Placed.{sizes-placed, records-placed}
 use Rattle.diversity.specs.Search.{noneFits}
 use Rattle.laws.proofs.Optimum.{none-exactly}
 use Rattle.choice.specs.Answer.{Call, Answered, told, mostCount, workTaken, tooShort, judged, isSelected, figures, reply}
 use Rattle.choice.specs.Answer.{curveOf, marksAfter, curveAfter, workAfter}
 use Rattle.choice.specs.Inner.{Solvable, Solved}
 use Rattle.choice.specs.declared.answer.Answer.{Answer}
-use Rattle.outline.specs.Rules.{mostRecords}
 
 module _ (c : Call) where
   -- the rows, one by one, where none holds
@@ -127,20 +123,3 @@ module _ (c : Call) where
         curve-written = rw number;
         work-cleared = rw number;
       }
-
-  -- ---- how large the numbers of a refusal are
-  pub judged-placed : Placed mostRecords (judged c)
-  unfolding judged
-  judged-placed =
-      let unknown = not (eqb c.way 0) && not (eqb c.way 1) in
-      let large = ltb mostCount c.count in
-      then-placed mostRecords (row 1 unknown) _ (row-placed mostRecords 1 unknown (omega arith))
-      (λ _. then-placed mostRecords (sizeRows c.outline) _ (sizes-placed c.outline)
-      (λ sized. then-placed mostRecords (row 4 large) _ (row-placed mostRecords 4 large (omega arith))
-      (λ _. then-placed mostRecords (recordRows c.outline) _ (records-placed c.outline sized)
-      (λ _. then-placed mostRecords (row 9 (tooShort c)) _ (row-placed mostRecords 9 (tooShort c) (omega arith))
-      (λ _. row-placed mostRecords 12 (noneFits c.outline c.way c.count) (omega arith))))))
-
-  pub reply-place-most : (reply c).place ≤ mostRecords
-  unfolding reply
-  reply-place-most = told-place _ _ _ judged-placed.place-most

@@ -23,7 +23,8 @@ use Rattle.laws.proofs.Optimum.{optimum-set, optimum-fits, shown-diversity, show
 use Rattle.laws.proofs.Sums.{total-most}
 use Rattle.choice.specs.Answer.{Call, judged, isSelected, bestSet, figures}
 use Rattle.choice.specs.Inner.{Solvable}
-use Rattle.choice.proofs.Answers.{way-known, selected-solvable, judged-placed}
+use Rattle.choice.proofs.Answers.{way-known, selected-solvable}
+use Rattle.choice.proofs.Bounds.{judged-placed}
 use Rattle.choice.proofs.Solving.{diversity-most}
 use Rattle.sheet.specs.Sheet.{added, rowOf}
 use Rattle.sheet.proofs.Sums.{quarters-sum, diversity-sum}

@@ -24,7 +24,7 @@ use Rattle.reading.specs.Scan.{isTree}
 use Rattle.reading.specs.Answer.{call, Figures, told, rowsFor, judged, reply, outlineAfter, Answered}
 use Rattle.newick.specs.Inner.{platesOf}
 use Rattle.reading.specs.Inner.{TreeRead, tree-bad, tree-many, tree-read, placeRows, Placed}
-use Rattle.reading.specs.declared.reader.Answer.{Answer}
+use Rattle.reading.specs.declared.answer.Answer.{Answer}
 use Rattle.reading.specs.declared.reader.Draft.{Draft}
 use Rattle.newick.proofs.Regrown.{layout-plates}
 use Rattle.newick.proofs.Ranges.{spells-in-range}

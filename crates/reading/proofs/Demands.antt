@@ -25,7 +25,7 @@ use Rattle.newick.specs.Pairs.{priceIn, badPairs}
 use Rattle.newick.specs.Parsing.{Parsed, unread, tree, parsed}
 use Rattle.reading.specs.Answer.{Call, Figures, numbersOf, told, rowsFor, judged, outlineOf, reply, outlineAfter, Answered}
 use Rattle.reading.specs.Demands.{OfTree, tableOf, readTable, ReadOrRefused, TreeGiven}
-use Rattle.reading.specs.declared.reader.Answer.{Answer}
+use Rattle.reading.specs.declared.answer.Answer.{Answer}
 use Rattle.reading.proofs.Answers.{layout-length}
 use Rattle.reading.proofs.Bounds.{layout-sized}
 use Rattle.reading.proofs.Pairing.{decides-pairs, pairs-once, priced}

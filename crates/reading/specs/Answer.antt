@@ -6,7 +6,7 @@ use Rattle.outline.specs.Answer.{recordRows}
 use Rattle.newick.specs.Layout.{count, plates, layout}
 use Rattle.newick.specs.Pairs.{priceIn, badPairs}
 use Rattle.newick.specs.Parsing.{Parsed, unread, tree, parsed}
-use Rattle.reading.specs.declared.reader.Answer.{Answer}
+use Rattle.reading.specs.declared.answer.Answer.{Answer}
 use Rattle.outline.specs.Rules.{mostRecords}
 
 -- a call: the text, the prices beside it, and the lent outline as it came in

@@ -2,11 +2,13 @@
 // caller.
 #![tactic(auto)]
 
+pub mod answer;
 mod cursor;
 mod pairs;
 mod part;
-pub mod reader;
+mod reader;
 mod record;
 mod scan;
 
+pub use answer::Answer;
 pub use reader::read;

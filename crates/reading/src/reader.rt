@@ -5,6 +5,7 @@ ghost use Rattle.newick.specs.Grammar.{mostBytes};
 ghost use Rattle.reading.specs.Answer.{call, told, Answered};
 ghost use Rattle.reading.specs.Inner.{draftSize, TreeRead, Whole, Placed};
 
+use super::answer::Answer;
 use super::cursor::Cursor;
 use super::pairs::bad_pairs;
 use super::part::{Part, read_part};
@@ -14,12 +15,6 @@ use outline::checker::check_records;
 use refusals::verdict::{Refusal, Verdict};
 
 const MOST_BYTES: usize = 16384;
-
-#[derive(Drop)]
-pub enum Answer {
-    Read { records: usize },
-    Refused(Refusal),
-}
 
 // What is drafted of a text: its tree, with so many records; `Many` where more than 127 begin.
 #[derive(Drop)]

@@ -1,4 +1,4 @@
--- What a call keeps that no row of the table refuses, the two ways to answer it, and how large the numbers of a refusal are.
+-- What a call keeps that no row of the table refuses, and the two ways to answer it.
 use Prim.Native.Nat.{ℕ, ◌-◌, ◌≤◌}
 use mathlib.Core.Path.{◌≡◌, refl, sym}
 use mathlib.Core.Logic.{◌⊎◌, inl, inr}
@@ -12,15 +12,12 @@ use borrow.Author.Tests.{ltb-false, eqb-true, eqb-false, eq-eqb}
 use Rattle.lists.specs.Lists.{over}
 use Rattle.lists.proofs.Bools.{both-false}
 use Rattle.lists.proofs.Walk.{lowest-none}
-use Rattle.refusals.specs.Refusals.{refusal, row, rowAt}
+use Rattle.refusals.specs.Refusals.{refusal, rowAt}
 use Rattle.refusals.specs.declared.verdict.Refusal.{Refusal}
-use Rattle.refusals.proofs.Placed.{Placed, row-placed, row-at-placed, then-placed}
-use Rattle.refusals.proofs.Replies.{told-place}
 use Rattle.refusals.proofs.Refusals.{both-pass, row-fails, row-at-fails, refusal-not-zero}
 use Rattle.outline.specs.Outline.{size, isTaxon}
 use Rattle.outline.specs.Answer.{checked}
 use Rattle.outline.proofs.WellFormed.{accepted-formed}
-use Rattle.outline.proofs.Placed.{checked-placed}
 use Rattle.diversity.specs.Behind.{MarkAt, IsSet}
 use Rattle.measures.specs.Measures.{Measured}
 use Rattle.measures.specs.declared.figures.Measure.{Measure}
@@ -29,7 +26,6 @@ use Rattle.sheet.specs.Inner.{Listable}
 use Rattle.sheet.specs.Sheet.{rowsOf}
 use Rattle.sheet.specs.declared.answer.Answer.{Answer}
 use Rattle.sheet.proofs.Sums.{quarters-sum, diversity-sum}
-use Rattle.outline.specs.Rules.{mostRecords}
 
 -- a mark that is not bad may stand at its record
 mark-good : (o : List ℕ) (r m : ℕ) (t : Bool) → isTaxon o r ≡ t → (b : Bool) → eqb m 1 ≡ b → (ltb 1 m || (b && not t)) ≡ false → MarkAt o r m
@@ -108,21 +104,3 @@ module _ (c : Call) where
   refused-answered e h =
       let number : eqb (judged c).number 0 ≡ false = rw (← h) (refusal-not-zero e) in
       record { told-reply = rw (number, h); sheet-written = rw number }
-
-  -- how large the numbers of a refusal are
-  judged-placed : Placed mostRecords (judged c)
-  unfolding judged
-  judged-placed =
-      let o = c.outline in
-      let unknown = not (eqb c.way 0) && not (eqb c.way 1) in
-      let few = ltb (length c.marks) (size o) in
-      then-placed mostRecords (row 1 unknown) _ (row-placed mostRecords 1 unknown (omega arith))
-      (λ _. then-placed mostRecords (checked o) _ (checked-placed o)
-      (λ z. then-placed mostRecords (row 14 few) _ (row-placed mostRecords 14 few (omega arith))
-      (λ _. then-placed mostRecords (rowAt 14 (badMark o c.marks) (size o)) _
-      (row-at-placed mostRecords 14 (badMark o c.marks) (size o) (omega arith) (accepted-formed o (eq-eqb _ _ z)).size-most)
-      (λ _. row-placed mostRecords 9 (ltb (length c.sheet) (sheetTaken c)) (omega arith)))))
-
-  pub reply-place-most : (reply c).place ≤ mostRecords
-  unfolding reply
-  reply-place-most = told-place _ _ _ judged-placed.place-most

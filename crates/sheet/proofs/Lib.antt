@@ -2,6 +2,7 @@
 pub mod Added
 pub mod Along
 pub mod Answers
+pub mod Bounds
 pub mod Demands
 pub mod Listing
 pub mod Opening

@@ -1,4 +1,4 @@
-// What a call is answered.
+// What listing a set answers.
 use refusals::verdict::Refusal;
 
 #[derive(Drop)]

@@ -1,24 +1,20 @@
--- What a call keeps that no row of the table refuses, the two ways to answer it, and how large the numbers of a refusal are.
-use Prim.Native.Nat.{ℕ, ◌≤◌}
+-- What a call keeps that no row of the table refuses, and the two ways to answer it.
+use Prim.Native.Nat.{ℕ}
 use mathlib.Core.Path.{◌≡◌, ◌∙◌}
 use mathlib.Core.Bool.{false}
 use mathlib.Core.List.{List}
-use native.Mathlib.Omega.{arith}
 use lib.Dec.{eqb, ltb}
 use lib.ListN.{length}
 use borrow.Author.Tests.{ltb-false, eq-eqb}
 use Rattle.lists.specs.Lists.{over}
-use Rattle.refusals.specs.Refusals.{Ruling, passed, refusal, row}
+use Rattle.refusals.specs.Refusals.{passed, refusal, row}
 use Rattle.refusals.specs.declared.verdict.Refusal.{Refusal}
-use Rattle.refusals.proofs.Placed.{Placed, row-placed, then-placed}
 use Rattle.refusals.proofs.Refusals.{both-pass, row-fails, refusal-not-zero}
 use Rattle.outline.specs.WellFormed.{WellFormed}
 use Rattle.outline.specs.Answer.{checked}
 use Rattle.outline.proofs.WellFormed.{accepted-formed}
-use Rattle.outline.proofs.Placed.{checked-placed}
 use Rattle.view.specs.Answer.{Call, viewTaken, judged, viewAfter, Answered}
 use Rattle.view.specs.Demands.{HasRoom}
-use Rattle.outline.specs.Rules.{mostRecords}
 
 module _ (c : Call) where
   -- no row of the table holds
@@ -48,12 +44,3 @@ module _ (c : Call) where
     refused-answered e h =
         let number : eqb (judged c).number 0 ≡ false = rw (← h) (refusal-not-zero e) in
         record { told-judged = h; view-written = rw number }
-
-    -- how large the place is
-    pub place-most : {t : Ruling} {view : List ℕ} → Answered shown c t view → t.place ≤ mostRecords
-    unfolding judged
-    place-most x =
-        let short = ltb (length c.view) (viewTaken c) in
-        let placed : Placed mostRecords (judged c) =
-        then-placed mostRecords (checked c.outline) _ (checked-placed c.outline) (λ _. row-placed mostRecords 9 short (omega arith)) in
-        rw x.told-judged placed.place-most

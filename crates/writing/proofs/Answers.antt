@@ -22,7 +22,7 @@ use Rattle.writing.specs.Text.{outlineText, outlinePairs}
 use Rattle.writing.specs.Answer.{Call, told, tooShort, judged, reply, textAfter, pairsAfter, Answered}
 use Rattle.newick.specs.Trees.{unwritable}
 use Rattle.writing.specs.Inner.{ownBytes, Writable}
-use Rattle.writing.specs.declared.writer.Answer.{Answer}
+use Rattle.writing.specs.declared.answer.Answer.{Answer}
 use Rattle.writing.proofs.OwnBytes.{text-length, mostWritten, text-few}
 use Rattle.newick.proofs.Plain.{Plain}
 use Rattle.writing.proofs.Priced.{pairs-count}

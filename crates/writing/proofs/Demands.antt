@@ -28,7 +28,7 @@ use Rattle.writing.specs.Text.{outlineText, outlinePairs}
 use Rattle.writing.specs.Answer.{Call, Figures, numbersOf, told, figures, tooShort, judged, reply, textAfter, pairsAfter, Answered}
 use Rattle.newick.specs.Trees.{unwritable}
 use Rattle.writing.specs.Demands.{writeTable, WrittenOrRefused, TextGiven, HasRoom}
-use Rattle.writing.specs.declared.writer.Answer.{Answer}
+use Rattle.writing.specs.declared.answer.Answer.{Answer}
 use Rattle.writing.proofs.Canonical.{text-spells}
 use Rattle.writing.proofs.OwnBytes.{text-most, text-short}
 use Rattle.reading.proofs.Pairing.{priced}

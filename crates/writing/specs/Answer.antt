@@ -7,7 +7,7 @@ use Rattle.outline.specs.Outline.{size}
 use Rattle.outline.specs.Answer.{checked}
 use Rattle.newick.specs.Trees.{unwritable}
 use Rattle.writing.specs.Text.{outlineText, outlinePairs}
-use Rattle.writing.specs.declared.writer.Answer.{Answer}
+use Rattle.writing.specs.declared.answer.Answer.{Answer}
 
 -- a call: the outline, and the lent buffers for its text and its pairs as they came in
 pub record Call : Type 0 where

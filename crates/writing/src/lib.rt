@@ -2,10 +2,12 @@
 // caller.
 #![tactic(auto)]
 
+pub mod answer;
 mod chains;
 mod pricing;
 mod sizes;
 mod unwritable;
-pub mod writer;
+mod writer;
 
+pub use answer::Answer;
 pub use writer::write;

@@ -5,6 +5,7 @@ ghost use Rattle.writing.specs.Text.{outlineText, outlinePairs};
 ghost use Rattle.writing.specs.Answer.{call, told, Answered};
 ghost use Rattle.writing.specs.Inner.{Writable};
 
+use super::answer::Answer;
 use super::chains::put_chain;
 use super::pricing::put_pairs;
 use super::sizes::bytes_of;
@@ -13,12 +14,6 @@ use outline::check;
 use outline::rules::taxa_of;
 use refusals::verdict::{Refusal, Verdict};
 use text::put_byte;
-
-#[derive(Drop)]
-pub enum Answer {
-    Written { bytes: usize, pairs: usize },
-    Refused(Refusal),
-}
 
 // Writes an outline for which no row holds.
 fn write_all(outline: &[u8], text: &mut [u8], pairs: &mut [u32])

@@ -3,7 +3,7 @@ use Rattle.std.proofs.Common.{◌≤◌, ap, ◌∙◌, arith}
 use Rattle.outline.specs.Rules.{mostRecords}
 use Rattle.refusals.specs.Reply.{Reply}
 use Rattle.choice.specs.Answer.{Figures}
-use Rattle.choice.proofs.Answers.{reply-place-most}
+use Rattle.choice.proofs.Bounds.{reply-place-most}
 use Rattle.plates.proofs.plates_choose.Goals as goal
 
 -- a place fits 32 bits

@@ -3,7 +3,7 @@ use Rattle.std.proofs.Common.{◌≤◌, ap, ◌∙◌, arith}
 use Rattle.outline.specs.Rules.{mostRecords}
 use Rattle.refusals.specs.Reply.{Reply}
 use Rattle.sheet.specs.Answer.{Figures}
-use Rattle.sheet.proofs.Answers.{reply-place-most}
+use Rattle.sheet.proofs.Bounds.{reply-place-most}
 use Rattle.plates.proofs.plates_sheet.Goals as goal
 
 -- a place fits 32 bits

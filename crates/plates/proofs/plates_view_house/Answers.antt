@@ -1,5 +1,5 @@
 -- `plates::plates_view_house` meets its contract.
-use Rattle.view.proofs.Answers.{place-most}
+use Rattle.view.proofs.Bounds.{place-most}
 use Rattle.plates.proofs.plates_view_house.Goals as goal
 
 pub tell-requires : goal.tell-requires

@@ -1,0 +1,8 @@
+// What reading answers.
+use refusals::verdict::Refusal;
+
+#[derive(Drop)]
+pub enum Answer {
+    Read { records: usize },
+    Refused(Refusal),
+}
