@@ -74,9 +74,6 @@ pub record Level (alike : ℕ → Bool) (n b : ℕ) : Type 0 where
   pub most : b ≤ n
   pub whole : columnsAlike alike n ≡ n - b + columnsAlike alike b
 
-pub level-starts : (alike : ℕ → Bool) (n : ℕ) → Level alike n n
-level-starts alike n = record { most = omega arith; whole = omega arith }
-
 module _ {alike : ℕ → Bool} {n b : ℕ} (h : Level alike n b) (nz : b ≡ 0 → ⊥) where
   before : columnsAlike alike b ≡ columnsAlike alike (suc (b - 1))
   before = ap (columnsAlike alike) (omega arith)

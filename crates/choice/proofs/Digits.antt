@@ -7,8 +7,8 @@ use mathlib.Core.List.{List}
 use native.Mathlib.Omega.{arith}
 use native.Mathlib.Nat.{mul_comm, div-div-eq-div-mul, div-one}
 use lib.ListN.{length, get_or, set, length-map}
-use Rattle.lists.specs.Lists.{from, over}
-use Rattle.lists.proofs.Buffers.{Falling, falling-starts, falling-goes, falling-ends}
+use Rattle.lists.specs.Lists.{from}
+use Rattle.lists.proofs.Buffers.{Falling, falling-starts, falling-goes}
 use Rattle.outline.specs.Outline.{size, records, isTaxon}
 use Rattle.laws.specs.Numbers.{weight, decode}
 use Rattle.laws.proofs.Marks.{from-length, map-at}
@@ -55,6 +55,3 @@ module _ (o : List ℕ) (code : ℕ) where
       rest = rw (weight-before o r l inside, t) h.rest;
       written = falling-goes h.written l (rw (mark-at r l inside, t));
     }
-
-  pub reading-ends : {buffer now : List ℕ} {left r : ℕ} → Reading buffer now left r → r ≤ 0 → now ≡ over (decode o code) buffer
-  reading-ends {r = r} h l = let z : r ≡ 0 = omega arith in falling-ends (rw z at h.written)

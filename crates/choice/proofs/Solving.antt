@@ -5,7 +5,6 @@ use mathlib.Core.Path.{◌≡◌, ap, ◌∙◌}
 use mathlib.Core.Bool.{Bool, true, false, ◌&&◌}
 use mathlib.Core.List.{List}
 use native.Mathlib.Omega.{arith}
-use native.Mathlib.Nat.{mul-le-mul_right}
 use lib.Dec.{eqb}
 use lib.ListN.{length, replicate}
 use Rattle.lists.specs.Lists.{one, from, over}
@@ -28,7 +27,7 @@ use Rattle.cells.specs.Cells.{unit, lift, seen, view, codeOf, cell}
 use Rattle.table.specs.Table.{Filled}
 use Rattle.cells.specs.declared.candidate.Candidate.{Candidate}
 use Rattle.choice.specs.Answer.{Call, told, mostCount, bestSet, figures, columns, curveOf, diversityAt, costAt}
-use Rattle.choice.specs.Inner.{topDiversity, topCost, Drawable, level, Solvable, Solved}
+use Rattle.choice.specs.Inner.{topDiversity, topCost, level, Solvable, Solved}
 use Rattle.choice.specs.declared.answer.Answer.{Answer}
 use Rattle.choice.proofs.Columns.{columns-long, column-diversity, column-cost, columns-ext, alike-ext}
 use Rattle.choice.proofs.Shown.{complete-is, shown-by}
@@ -118,14 +117,6 @@ module _ (c : Call) (s : Solvable c) (table : List ℕ) (filled : Filled c.outli
       × (topCost table (c.count + 1) (locks c.outline) b ≡ leastCost c.outline c.way b)
   unfolding bestDiversity leastCost optimum
   top-column b h = rw (filled.row b (omega arith)) (shown-by c.outline c.way (ruling b))
-
-  pub table-drawable : length table ≡ length c.work → Drawable table (c.count + 1) c.curve
-  table-drawable same = record {
-    inside =
-        let rows : 3 ≤ size c.outline + 2 = omega (arith, s.formed.linked.filled) in
-        omega (arith, s.work-long, mul-le-mul_right (c.count + 1) rows);
-    curve-long = s.curve-long;
-  }
 
   top-curve : columns (topDiversity table (c.count + 1) (locks c.outline)) (topCost table (c.count + 1) (locks c.outline)) (from 0 (c.count + 1))
       ≡ curveOf c

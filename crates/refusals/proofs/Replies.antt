@@ -20,9 +20,6 @@ module _ {Figures : Type 0} (none : Figures) (t : Ruling) (f : Figures) where
   pub granted-told : t.number ≡ 0 → replied none t f ≡ granted f
   granted-told z = rw (eq-eqb t.number 0 z)
 
-  pub refused-told : 1 ≤ t.number → replied none t f ≡ refused none t
-  refused-told h = rw (ne_eqb t.number 0 (λ z. omega arith))
-
   -- where the number told is 0, no row holds
   pub told-passed : (replied none t f).number ≡ 0 → t.number ≡ 0
   told-passed z = go (eqb t.number 0) refl z

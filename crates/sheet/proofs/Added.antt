@@ -1,6 +1,6 @@
 -- What each place adds to a measure: a table in which a record's weight stands at the place from which on it counts.
 use Rattle.std.specs.Prelude.{if◌then◌else◌}
-use Prim.Native.Nat.{ℕ, zero, suc, ◌+◌, ◌*◌, ◌-◌, ◌^◌, ◌≤◌, ◌<◌}
+use Prim.Native.Nat.{ℕ, zero, suc, ◌+◌, ◌*◌, ◌-◌, ◌≤◌, ◌<◌}
 use mathlib.Core.Path.{◌≡◌, refl, sym, ap₂, ◌∙◌}
 use mathlib.Core.Bool.{Bool, true, false, ◌||◌, ◌&&◌, and-true}
 use mathlib.Core.List.{List}
@@ -83,9 +83,6 @@ module _ (weight : ℕ → ℕ) (counts : ℕ → ℕ → Bool) (n : ℕ) where
   module _ {r : ℕ} {table : List ℕ} (a : Adding r table) (h : r ≤ n) {x v : ℕ} (since : Since x (counts r)) (is : v ≡ weight r) (few : v ≤ heaviest) where
     inside : x < length table
     inside = omega (arith, since.most, a.long)
-
-    pub adding-fits : n ≤ mostRecords → get_or table x 0 + v < 2 ^ 32
-    adding-fits u = omega (arith, a.small x (omega (arith, since.most)))
 
     pub adding-goes : Adding (r + 1) (raised table x v)
     adding-goes = record {

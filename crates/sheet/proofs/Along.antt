@@ -1,5 +1,4 @@
 -- The tables of first places: one is filled from the last record on, the other from the root on.
-use Rattle.std.specs.Prelude.{if◌then◌else◌}
 use Prim.Native.Nat.{ℕ, zero, suc, ◌+◌, ◌-◌, ◌≤◌, ◌<◌}
 use mathlib.Core.Path.{◌≡◌, refl, sym, ap, ◌∙◌}
 use mathlib.Core.Logic.{◌⊎◌, inl, inr}
@@ -14,8 +13,8 @@ use Rattle.outline.specs.Inner.{numbers}
 use Rattle.outline.specs.Outline.{size, next, first, IsRecord}
 use Rattle.outline.specs.WellFormed.{Later, Linked, WellFormed}
 use Rattle.laws.proofs.Links.{Namer, by-next, by-first, namer}
-use Rattle.sheet.specs.Inner.{lower, higher, noPlace, placeOf, Since, priceCounts, branchCounts, FirstIn, FirstOut, Firsts, Outsides, Placed, AtRecord}
-use Rattle.sheet.proofs.Places.{first-none, out-root, out-members, out-rest, branch-since}
+use Rattle.sheet.specs.Inner.{lower, higher, noPlace, placeOf, Since, priceCounts, branchCounts, FirstIn, FirstOut, Outsides, Placed}
+use Rattle.sheet.proofs.Places.{first-none, out-members, out-rest, branch-since}
 
 -- the tables have a number for each link
 module _ {o : List ℕ} {r : ℕ} (formed : WellFormed o) (i : IsRecord o r) where
@@ -62,9 +61,6 @@ module _ {o s : List ℕ} {r : ℕ} {firsts : List ℕ} (b : Backwards o s r fir
     later = λ q h u. stored (FirstIn o s) firsts r x q (omega (arith, b.long)) f (λ d. b.later q (omega arith) u);
   }
 
-pub backwards-ends : {o s : List ℕ} {r : ℕ} {firsts : List ℕ} → Backwards o s r firsts → r ≤ 0 → Firsts o s firsts
-backwards-ends {o} {s} {r} {firsts} b h = record { at-link = λ q u. backwards-link b q (record { later = λ l. omega arith; most = u }) }
-
 -- the table, at the links of a record
 module _ {o s firsts : List ℕ} {r : ℕ} (p : Placed o s firsts) (i : IsRecord o r) where
   members-placed : FirstIn o s (first o r) (get_or firsts (first o r) 0)
@@ -72,9 +68,6 @@ module _ {o s firsts : List ℕ} {r : ℕ} (p : Placed o s firsts) (i : IsRecord
 
   rest-placed : FirstIn o s (next o r) (get_or firsts (next o r) 0)
   rest-placed = p.firsts-are.at-link (next o r) (p.base.formed.linked.next-later r i.low i.high).most
-
-  pub placed-at : AtRecord o s firsts r
-  placed-at = record { base = p.base; is-record = i; members = members-placed }
 
 -- ---- the first taxon outside each chain: known for the root's, and for those that a link of a record before r begins
 pub data Reached (o : List ℕ) (r q : ℕ) : Type 0 where
@@ -107,13 +100,6 @@ pub record Onwards (o : List ℕ) (way : ℕ) (s : List ℕ) (r : ℕ) (outsides
   pub low : 1 ≤ r
   pub long : length outsides ≡ numbers
   pub known : (q : ℕ) → Reached o r q → FirstOut o way s q (get_or outsides q 0)
-
-pub onwards-starts : (o : List ℕ) (way : ℕ) (s : List ℕ) {x : ℕ} → x ≡ (if eqb way 0 then 0 else noPlace) → Onwards o way s 1 (replicate numbers x)
-onwards-starts o way s {x} e = record { low = omega arith; long = length-replicate {A = ℕ} numbers x; known = at }
-  where
-    at : (q : ℕ) → Reached o 1 q → FirstOut o way s q (get_or (replicate numbers x) q 0)
-    at q (root d) = rw (d, e) (out-root o way s)
-    at q (by-link p a h d) = absurd (omega arith)
 
 module _ {o : List ℕ} {way : ℕ} {s : List ℕ} {r : ℕ} {outsides : List ℕ} (b : Onwards o way s r outsides) where
   onwards-at : Linked o → r ≤ size o → FirstOut o way s r (get_or outsides r 0)

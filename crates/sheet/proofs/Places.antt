@@ -153,11 +153,3 @@ module _ {o : List ℕ} (formed : WellFormed o) {r : ℕ} (i : IsRecord o r) (s 
             let left : 0 + inChain o s 1 k - inChain o s r k + inChain o s (next o r) k ≡ inChain o s 1 k - chosenBelow o (upTo s k) r =
             omega (arith, stepped k, part k) in
             ap positive left ∙ sym (elsewhere-count o formed.linked (upTo s k) r i.low i.high)
-
--- outside the whole tree there is none, but rooted one from the first on
-pub out-root : (o : List ℕ) (way : ℕ) (s : List ℕ) → FirstOut o way s 1 (if eqb way 0 then 0 else noPlace)
-out-root o way s = go (eqb way 0)
-  where
-    go : (b : Bool) → Since (if b then 0 else noPlace) (λ k. positive (one b + inChain o s 1 k - inChain o s 1 k))
-    go true = record { most = omega arith; each = λ k l u. lt-ltb 0 k l ∙ sym (positive-true (1 + inChain o s 1 k - inChain o s 1 k) (omega arith)) }
-    go false = since-same (λ k. let none : 0 ≡ 0 + inChain o s 1 k - inChain o s 1 k = omega arith in ap positive none) since-never

@@ -50,13 +50,6 @@ digits-more n h e = omega (arith, ap length (decimal-more n h), length-append (d
 pub digits-few : (n : ℕ) → n < 4294967296 → length (decimal n) ≤ 10
 digits-few n h = decimal-most 9 n (omega arith)
 
-pub comma-most : (next : ℕ) → bool_byte (not (eqb next 0)) ≤ 1
-comma-most next = go (eqb next 0)
-  where
-    go : (b : Bool) → bool_byte (not b) ≤ 1
-    go true = omega arith
-    go false = omega arith
-
 comma-counted : (next : ℕ) → bool_byte (not (eqb next 0)) ≡ length (comma next)
 comma-counted next = go (eqb next 0)
   where
