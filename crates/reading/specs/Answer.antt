@@ -58,9 +58,12 @@ abbrev pub outlineOf : List ℕ → Parsed → List ℕ
 outlineOf pairs unread = []
 outlineOf pairs (tree t) = layout (priceIn pairs) t
 
+abbrev pub figures : Call → Figures
+figures c = counted (countOf (parsed c.text))
+
 -- what a call is told
 unfoldable pub reply : Call → Reply Figures
-reply c = replied noFigures (judged c) (counted (countOf (parsed c.text)))
+reply c = replied noFigures (judged c) (figures c)
 
 -- the outline after a call: written where no row holds, and what is past the N records is unchanged
 unfoldable pub outlineAfter : Call → List ℕ
