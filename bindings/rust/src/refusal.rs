@@ -46,8 +46,8 @@ pub enum Refusal {
         /// The lowest such record, from 1.
         record: u32,
     },
-    /// 6: one of a record's links leads to no later record, or it is the root and has a next, or no
-    /// link or more than one names it.
+    /// 6: one of a record's links leads to no later record; or it is the root and has a next; or it is
+    /// another record, and no link or more than one names it.
     BadLink {
         /// The lowest such record, from 1.
         record: u32,
@@ -192,7 +192,7 @@ impl fmt::Display for Refusal {
             Refusal::FieldOutOfRange { .. } => "its length, price or plate is out of range",
             Refusal::BadLink { .. } => {
                 "one of its links leads to no later record, or it is the root and has a next, \
-                 or no link or more than one names it"
+                 or it is another record and no link or more than one names it"
             }
             Refusal::TooManyTaxa => "the outline has more than 64 taxa",
             Refusal::DuplicatePlate { .. } => "an earlier taxon has the same plate",

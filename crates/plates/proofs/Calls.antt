@@ -1,5 +1,5 @@
--- What is promised of several calls, `plates_write` and `plates_read`, `plates_choose` and `plates_sheet`, `plates_view_buyer` twice: what
--- is promised of the functions behind them, of the numbers that stand in `answer`.
+-- The demands of calls of the C functions, and what is promised of several of them, `plates_write` and `plates_read`, `plates_choose` and
+-- `plates_sheet`, `plates_view_buyer` twice: what is promised of the functions behind them, of the numbers that stand in `answer`.
 use Prim.Native.Nat.{ℕ, ◌≤◌}
 use mathlib.Core.Path.{◌≡◌, sym, ap, ◌∙◌}
 use mathlib.Core.List.{List}
@@ -7,19 +7,51 @@ use lib.ListN.{length}
 use Rattle.diversity.specs.Order.{InTextOrder}
 use Rattle.reading.specs.Answer as read
 use Rattle.writing.specs.Answer as write
-use Rattle.writing.specs.Demands.{Handed, Returned, GivenBack, HasRoom, WroteAlike}
+use Rattle.writing.specs.Demands.{WrittenOrRefused, Handed, Returned, GivenBack, HasRoom, WroteAlike}
 use Rattle.writing.proofs.RoundTrip.{same-bytes, second-writing}
 use Rattle.choice.specs.Answer as choose
+use Rattle.choice.specs.Demands as choices
+use Rattle.choice.proofs.Demands.{demand-1, demand-2, demand-3}
+use Rattle.reading.specs.Demands.{ReadOrRefused}
+use Rattle.reading.proofs.Demands.{demand-1 as reading-decided}
+use Rattle.writing.proofs.Demands.{demand-1 as writing-decided}
 use Rattle.sheet.specs.Answer as sheet
 use Rattle.sheet.specs.Demands as sheets
-use Rattle.sheet.proofs.Demands.{choice-listed}
+use Rattle.sheet.proofs.Demands.{demand-1 as sheet-decided, choice-listed}
 use Rattle.refusals.specs.Refusals.{Ruling}
 use Rattle.refusals.specs.Reply.{granted}
 use Rattle.view.specs.Answer as view
-use Rattle.view.specs.Demands.{BuyersCalls, HasRoom as ViewHasRoom, SameBytes}
+use Rattle.view.specs.Demands.{ShownOrRefused, BuyersCalls, HasRoom as ViewHasRoom, SameBytes}
 use Rattle.view.specs.View.{buyerView}
-use Rattle.view.proofs.Demands.{buyers-alike, buyers-alike-whole}
+use Rattle.view.proofs.Demands.{demand-1 as view-decided, buyers-alike, buyers-alike-whole}
 use Rattle.plates.specs.Interface.{chosenIn, Chosen, listedIn, SheetListed, readIn, TextRead, writtenIn, TextWritten, rulingIn, Viewed}
+
+-- each call is given what its table gives, and choosing is true of the marks and finds what the exhaustive search finds
+module _ {c : choose.Call} {n : ℕ} {answer marks curve work : List ℕ} (x : Chosen c n answer marks curve work) where
+  pub chosen-decided : choices.SelectedOrRefused c (chosenIn answer) marks curve work
+  chosen-decided = demand-1 c x.answered
+
+  pub chosen-true : n ≡ 0 → choices.TrueOfMarks c (chosenIn answer) marks
+  chosen-true z = demand-2 c x.answered (sym x.number-given ∙ z)
+
+  pub chosen-found : n ≡ 0 → choices.FoundBySearch c (chosenIn answer) marks curve
+  chosen-found z = demand-3 c x.answered (sym x.number-given ∙ z)
+
+pub listed-decided : {c : sheet.Call} {n : ℕ} {answer lent : List ℕ} → SheetListed c n answer lent
+    → sheets.ListedOrRefused c (listedIn answer) lent
+listed-decided {c} x = sheet-decided c x.answered
+
+pub read-decided : {c : read.Call} {n : ℕ} {answer outline : List ℕ} → TextRead c n answer outline
+    → ReadOrRefused c (readIn answer) outline
+read-decided {c} x = reading-decided c x.answered
+
+pub written-decided : {c : write.Call} {n : ℕ} {answer text pairs : List ℕ} → TextWritten c n answer text pairs
+    → WrittenOrRefused c (writtenIn answer) text pairs
+written-decided {c} x = writing-decided c x.answered
+
+pub viewed-decided : {shown : List ℕ → List ℕ} {c : view.Call} {n : ℕ} {answer lent : List ℕ} → Viewed shown c n answer lent
+    → ShownOrRefused c (rulingIn answer) lent
+viewed-decided {c = c} x = view-decided c x.answered
 
 -- where the records stand in text order, reading what was written gives back the same bytes
 pub written-read : {c : write.Call} {d : read.Call} {n m : ℕ} {answer text pairs answer' outline : List ℕ}

@@ -17,13 +17,11 @@ ghost use Rattle.outline.specs.Rules.{mostRecords};
 
 use choice::{Answer, choose};
 use outline::{check, find_record};
-use reading::read;
-use reading::Answer as Reading;
+use reading::{Answer as Reading, read};
 use refusals::verdict::{Verdict, number_of, place_of};
 use sheet::{Answer as Listing, sheet as list};
 use view::{view_buyer, view_house};
-use writing::write;
-use writing::Answer as Writing;
+use writing::{Answer as Writing, write};
 
 // 0, or the number of the first row of the table that refuses an outline; writes its place.
 #[unsafe(no_mangle)]
