@@ -22,7 +22,9 @@ fn put_selection(
     way: u32,
     marks: &[u8],
 ) -> usize
-    requires first_nonzero { (0 < length first.now) × (2 * width ≤ length curve.now) × Listed o.now way marks.now }
+    requires first_some { 0 < length first.now }
+    requires curve_long { 2 * width ≤ length curve.now }
+    requires listed { Listed o.now way marks.now }
     requires long_enough { LongEnough 0 (wholeText first.now curve.now width o.now way marks.now) buffer.old }
     ensures { Written 0
         (wholeText first.now curve.now width o.now way marks.now)

@@ -52,13 +52,14 @@ pub put_refusal-requires : goal.put_refusal-requires
 unfolding callWith
 put_refusal-requires c = rw (refusal-printed _ c.short_at-count.ensures c.short_at-way.ensures _ c.in-Refused.ensures) c.requires.1
 
-pub put_selection-requires-clause-first_nonzero : goal.put_selection-requires-clause-first_nonzero
+pub put_selection-requires-clause-curve_long : goal.put_selection-requires-clause-curve_long
 unfolding callWith
-put_selection-requires-clause-first_nonzero c = (
-  omega arith,
-  columns-within _ c.short_at-count.ensures c.short_at-way.ensures c.in-Selected.ensures c.choose-answer.auto.curve,
-  marks-listed _ c.short_at-count.ensures c.short_at-way.ensures c.in-Selected.ensures,
-)
+put_selection-requires-clause-curve_long c =
+    columns-within _ c.short_at-count.ensures c.short_at-way.ensures c.in-Selected.ensures c.choose-answer.auto.curve
+
+pub put_selection-requires-clause-listed : goal.put_selection-requires-clause-listed
+unfolding callWith
+put_selection-requires-clause-listed c = marks-listed _ c.short_at-count.ensures c.short_at-way.ensures c.in-Selected.ensures
 
 pub put_selection-requires-clause-long_enough : goal.put_selection-requires-clause-long_enough
 unfolding callWith
