@@ -13,7 +13,7 @@ use Rattle.laws.specs.Candidate.{Value, heading, Cand, none, some, betterOf, joi
 use Rattle.laws.proofs.Order.{better-none}
 use Rattle.rows.specs.Rows.{Row, joinRow}
 use Rattle.cells.specs.Cells.{cell}
-use Rattle.cells.specs.Memory.{rowAt, joinFrom, chargeOver, Betters, Bettering, ChargesFrom, ChargingFrom, Charges, Charging}
+use Rattle.cells.specs.Memory.{rowAt, joinFrom, chargeOver, Bettering, ChargingFrom, Charges, Charging}
 
 pub le-or-lt : (m n : ℕ) → (m ≤ n) ⊎ (n < m)
 le-or-lt m n = go (leb m n) refl
@@ -41,42 +41,25 @@ join-row v x b = go (leb v.cost b)
     go false = refl
 
 -- a row charged in two parts: from the price on, and below it
-module _ {l : List ℕ} {to branch price y w : ℕ} (j : Charges l to branch price y w) where
-  pub charges-from : ChargesFrom l to to branch price y w
-  charges-from = record {
-    inside = j.inside;
-    moved = record { inside = j.inside; aside = inl (omega arith) };
-    over = record { inside = j.over-inside; aside = ⊎_elim inr (λ p. inl (omega arith)) j.over-apart };
-    blank = j.blank;
-    fits = j.fits;
+module _ {l m : List ℕ} {to branch price y w : ℕ} (j : Charges l to branch price y w) (len : length m ≡ length l)
+    (above : ChargingFrom to to branch price y w l m) {n : ℕ} (e : n ≡ min price w) where
+  over-same : (i : ℕ) → i < w → cell m (y + i) ≡ cell l (y + i)
+  over-same i h = above.same (y + i) (⊎_elim (λ p q. omega arith) (λ p q. omega arith) j.over-apart)
+
+  none-same : (i : ℕ) → i < w → cell m (0 + i) ≡ none
+  none-same i h = above.same (0 + i) (λ q. omega (arith, j.above)) ∙ j.none-row refl i h
+
+  pub charging-whole : {m' : List ℕ} → Bettering to y 0 n m m' → Charging to branch price y w l m'
+  unfolding betterOf
+  charging-whole {m'} v = record {
+    row = λ b u h. ⊎_elim (from-price b h) (under b h) (le-or-lt price b);
+    same = λ k g. v.same k (λ q. omega (arith, g (omega arith))) ∙ above.same k (λ q. g (omega arith));
   }
+    where
+      from-price : (b : ℕ) → b < w → price ≤ b → cell m' (to + b) ≡ chargeOver (rowAt l to) branch price (rowAt l y) b
+      from-price b h q = v.same (to + b) (λ g. omega arith) ∙ above.row b q h
 
-  module _ {m : List ℕ} (len : length m ≡ length l) (above : ChargingFrom to to branch price y w l m) {n : ℕ} (e : n ≡ min price w) where
-    over-same : (i : ℕ) → i < w → cell m (y + i) ≡ cell l (y + i)
-    over-same i h = above.same (y + i) (⊎_elim (λ p q. omega arith) (λ p q. omega arith) j.over-apart)
-
-    none-same : (i : ℕ) → i < w → cell m (0 + i) ≡ none
-    none-same i h = above.same (0 + i) (λ q. omega (arith, j.above)) ∙ j.none-row refl i h
-
-    pub betters-below : Betters m to y 0 n
-    betters-below = record {
-      inside = omega (arith, j.inside);
-      first = record { inside = omega (arith, j.over-inside); aside = ⊎_elim (λ p. inl (omega arith)) (λ p. inr (omega arith)) j.over-apart };
-      second = record { inside = omega (arith, j.inside); aside = inr (omega (arith, j.above)) };
-      blank = λ z b h. none-same b (omega arith);
-    }
-
-    pub charging-whole : {m' : List ℕ} → Bettering to y 0 n m m' → Charging to branch price y w l m'
-    unfolding betterOf
-    charging-whole {m'} v = record {
-      row = λ b u h. ⊎_elim (from-price b h) (under b h) (le-or-lt price b);
-      same = λ k g. v.same k (λ q. omega (arith, g (omega arith))) ∙ above.same k (λ q. g (omega arith));
-    }
-      where
-        from-price : (b : ℕ) → b < w → price ≤ b → cell m' (to + b) ≡ chargeOver (rowAt l to) branch price (rowAt l y) b
-        from-price b h q = v.same (to + b) (λ g. omega arith) ∙ above.row b q h
-
-        under : (b : ℕ) → b < w → b < price → cell m' (to + b) ≡ chargeOver (rowAt l to) branch price (rowAt l y) b
-        under b h q =
-            v.row b (omega arith) (omega arith) ∙ ap₂ betterOf (over-same b h) (none-same b h) ∙ better-none _
-            ∙ sym (ap (λ c. betterOf c (cell l (y + b))) (join-below (some (heading branch price)) price (rowAt l to) b q))
+      under : (b : ℕ) → b < w → b < price → cell m' (to + b) ≡ chargeOver (rowAt l to) branch price (rowAt l y) b
+      under b h q =
+          v.row b (omega arith) (omega arith) ∙ ap₂ betterOf (over-same b h) (none-same b h) ∙ better-none _
+          ∙ sym (ap (λ c. betterOf c (cell l (y + b))) (join-below (some (heading branch price)) price (rowAt l to) b q))

@@ -1,7 +1,7 @@
 -- Cells that are put and rows that are written, column by column.
 use Prim.Native.Nat.{ℕ, ◌+◌, ◌*◌, ◌-◌, ◌<◌, ◌≤◌}
-use mathlib.Core.Path.{◌≡◌, refl, ◌∙◌}
-use mathlib.Core.Logic.{◌⊎◌, inl, inr, ◌≢◌, ⊎_elim}
+use mathlib.Core.Path.{◌≡◌, ◌∙◌}
+use mathlib.Core.Logic.{◌⊎◌, inr, ◌≢◌, ⊎_elim}
 use mathlib.Core.List.{List}
 use native.Mathlib.Omega.{arith}
 use native.Mathlib.Nat.{eq-or-lt_of_le}
@@ -37,14 +37,6 @@ pub record Filling (to lo w : ℕ) (x : Row) (l m : List ℕ) (i j : ℕ) : Type
   pub long : length m ≡ length l
   pub written : Written to i j x l m
 
-pub filling-starts : (to lo w : ℕ) (x : Row) (l : List ℕ) (i : ℕ) → Filling to lo w x l l i i
-filling-starts to lo w x l i = record {
-  ordered = omega arith;
-  inside = inl refl;
-  long = refl;
-  written = record { row = λ b p q. absurd (omega arith); same = λ k h. refl };
-}
-
 module _ {to lo w : ℕ} {x : Row} {l m : List ℕ} {i j : ℕ} (h : Filling to lo w x l m i j) where
   -- from left to right
   pub filling-goes : {c : Cand} {m' : List ℕ} → lo ≤ i → j < w → Put (to + j) c m m' → length m' ≡ length m → c ≡ x j
@@ -75,12 +67,6 @@ module _ {to lo w : ℕ} {x : Row} {l m : List ℕ} {i j : ℕ} (h : Filling to 
           (eq-or-lt_of_le u');
       same = λ k g. p.same k (λ q. omega (arith, g (omega arith), h.ordered)) ∙ h.written.same k (λ q. omega (arith, g (omega arith)));
     };
-  }
-
-  pub filling-ends : i ≤ lo → w ≤ j → Written to lo w x l m
-  filling-ends least most = record {
-    row = λ b p q. h.written.row b (omega arith) (omega arith);
-    same = λ k g. h.written.same k (λ p. ⊎_elim (λ (e : i ≡ j). omega arith) (λ (a, b). omega (arith, g (omega arith))) h.inside);
   }
 
   -- a row that is not overtaken is still as it was where it is read

@@ -6,7 +6,7 @@ use mathlib.Core.Bool.{Bool, true, false, ◌&&◌, and-true, and-false}
 use mathlib.Core.List.{List}
 use native.Mathlib.Omega.{arith}
 use Rattle.lists.specs.Lists.{one, positive}
-use Rattle.outline.specs.Outline.{branch, price, locked}
+use Rattle.outline.specs.Outline.{branch}
 use Rattle.laws.specs.Forest.{Forest, empty, node, isGroup, sumIn}
 use Rattle.laws.proofs.Sums.{positive-true}
 use Rattle.laws.specs.Measures.{weightIn, rootedIn, across, chosenIn, unrootedIn, groupsIn, crossing, withinIn}

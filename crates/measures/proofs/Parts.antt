@@ -1,12 +1,11 @@
 -- Sums over the forest of a record: how large they are, and how those of a clade, of a chain and of all records come about.
 use Rattle.std.specs.Prelude.{if◌then◌else◌}
-use Prim.Native.Nat.{ℕ, zero, suc, ◌+◌, ◌*◌, ◌-◌, ◌^◌, ◌≤◌, ◌<◌}
+use Prim.Native.Nat.{ℕ, ◌+◌, ◌*◌, ◌-◌, ◌^◌, ◌≤◌, ◌<◌}
 use mathlib.Core.Path.{◌≡◌, refl, sym, ap, ◌∙◌}
-use mathlib.Core.Bool.{Bool, true, false, ◌||◌, ◌&&◌, false≢true}
+use mathlib.Core.Bool.{Bool, true, false, ◌&&◌}
 use mathlib.Core.List.{List}
 use native.Mathlib.Omega.{arith}
-use lib.Dec.{eqb, leb}
-use borrow.Author.Tests.{leb-true, leb-false, ne_eqb}
+use lib.Dec.{eqb}
 use mir.Val.{bool_byte}
 use Rattle.lists.specs.Lists.{one, positive}
 use Rattle.lists.proofs.Bools.{byte-one, one-le, if-most}
@@ -14,7 +13,7 @@ use Rattle.outline.specs.Outline.{size, next, first, branch, price, records}
 use Rattle.outline.specs.WellFormed.{WellFormed}
 use Rattle.diversity.specs.Diversity.{chosen, rooted, unrooted, diversity, chosenTaxa}
 use Rattle.laws.specs.Forest.{Forest, node, sumIn, tree}
-use Rattle.laws.proofs.Sums.{positive-true, total-most}
+use Rattle.laws.proofs.Sums.{total-most}
 use Rattle.laws.proofs.Forest.{tree-zero, tree-step, sum-part}
 use Rattle.laws.proofs.ByTree.{cost-tree, taxa-tree, rooted-crossing, unrooted-crossing}
 use Rattle.measures.specs.Measures.{Measurable, Measured}
@@ -22,22 +21,6 @@ use Rattle.measures.specs.Inner.{Addable, Added, Marked, cladeOf, InClade, Clade
 use Rattle.measures.specs.declared.figures.Measure.{Measure}
 use Rattle.outline.specs.Rules.{mostRecords}
 use Rattle.laws.specs.Measures.{chosenIn, costIn, crossing}
-
--- ---- what a record counts
-pub positive-if : {v w : ℕ} (below : ℕ) → (below ≡ 0 → ⊥) → v ≡ w → v ≡ (if positive below then w else 0)
-positive-if below h e = rw (positive-true below (omega arith)) e
-
-pub crossing-not : (below all w : ℕ) → (eqb below 0 || leb all below) ≡ true → 0 ≡ (if positive below && positive (all - below) then w else 0)
-crossing-not zero all w h = refl
-crossing-not (suc k) all w h =
-    let z : all - suc k ≡ 0 = omega (arith, leb-true all (suc k) (rw (ne_eqb (suc k) 0 (omega arith)) at h)) in
-    rw z
-
-pub crossing-yes : {v w : ℕ} (below all : ℕ) → (eqb below 0 || leb all below) ≡ false → v ≡ w → v ≡ (if positive below && positive (all - below) then w else 0)
-crossing-yes zero all h e = absurd (false≢true (sym h))
-crossing-yes (suc k) all h e =
-    let some : 0 < all - suc k = omega (arith, leb-false all (suc k) (rw (ne_eqb (suc k) 0 (omega arith)) at h)) in
-    rw (positive-true (all - suc k) some) e
 
 -- ---- how large the sums are
 pub record SumsBounded (taxa cost diversity : ℕ) : Type 0 where

@@ -8,8 +8,8 @@ use lib.Pow.{pow_mono}
 use Rattle.lists.specs.Lists.{total}
 use Rattle.outline.specs.Outline.{size, next, first, branch, price, records, isTaxon}
 use Rattle.outline.specs.WellFormed.{Linked, WellFormed}
-use Rattle.laws.specs.Forest.{Forest, empty, node, sumIn, tree}
-use Rattle.laws.specs.Candidate.{Value, Cand, From, nothing, this}
+use Rattle.laws.specs.Forest.{Forest, empty, node, tree}
+use Rattle.laws.specs.Candidate.{Cand, From, nothing, this}
 use Rattle.laws.specs.Locks.{locks}
 use Rattle.laws.specs.Numbers.{weight}
 use Rattle.laws.proofs.Sums.{total-ext, total-most}

@@ -17,7 +17,7 @@ use Rattle.laws.proofs.Measures.{weight-quiet, within-quiet}
 use Rattle.laws.proofs.Order.{value-path}
 use Rattle.rows.specs.Rows.{taxonRooted, taxonUnrooted, headingRooted, headingUnrooted}
 use Rattle.rows.proofs.BestRows.{Plus, Shifted}
-use Rattle.laws.specs.Measures.{chosenIn, groupsIn, weightIn, lock, locksIn, withinIn, costIn, rootedIn, across, unrootedIn}
+use Rattle.laws.specs.Measures.{chosenIn, groupsIn, weightIn, lock, withinIn, across, unrootedIn}
 use Rattle.rows.specs.Worth.{rootedWorth, unrootedWorth}
 
 -- two sets choose alike among the records of a forest

@@ -19,7 +19,7 @@ use Rattle.rows.specs.Rows.{Row, betterRow, taxonRooted, headingRooted, cladeRow
 use Rattle.rows.proofs.Bounds.{small-more, pushed-small}
 use Rattle.rows.proofs.Steps.{pushed-same, pushed-zero, pushed-step}
 use Rattle.cells.specs.Cells.{cell, lockedOf, diversityOf, costOf, codeOf}
-use Rattle.cells.specs.Memory.{rowAt, Betters, Charges, Charging, Bettering}
+use Rattle.cells.specs.Memory.{rowAt, Betters, Charges, Charging}
 use Rattle.table.proofs.Places.{gap, base-kept, blank-none, idle-nothing, own-inside, At, to-next, to-first, lockings-here, branches-here, codes-here}
 use Rattle.cells.proofs.ByPrice.{join-row, join-same}
 use Rattle.table.specs.Table.{IsTaxon, start, Base, Pushable, Pushed, Followed, TaxonRow, TaxonJoins, pushedFrom}
@@ -66,13 +66,6 @@ module _ {to after rest w : ℕ} {l : List ℕ} (h : Betters l to after rest w) 
     place = rw (eq-eqb rest 0 e);
     row = λ b k. sym (ap (betterOf (cell l (after + b))) (h.blank e b k) ∙ better-none (cell l (after + b)));
     same = λ k q. refl;
-  }
-
-  pub followed-both : (rest ≡ 0 → ⊥) → {m : List ℕ} → Bettering to after rest w l m → Followed to after rest w l m to
-  followed-both n v = record {
-    place = rw (ne_eqb rest 0 n);
-    row = λ b k. v.row b (omega arith) k;
-    same = λ k q. v.same k (λ g. q (omega arith));
   }
 
 -- ---- pushing at record r
@@ -200,19 +193,6 @@ module _ {o : List ℕ} {r after to w : ℕ} {l₀ : List ℕ} (ready : Pushable
       }
 
     -- what may follow r's clade is pushed through its members
-    pub betters-follow : Betters l₁ (start w r) after rest w
-    betters-follow = record {
-      inside = omega (arith, own-inside ready.base ready.most);
-      first = record { inside = omega (arith, ready.after-before a.positive, own-inside ready.base ready.most); aside = inr (ready.after-before a.positive) };
-      second = record {
-        inside = rest-inside;
-        aside =
-            ⊎_elim (λ (e : rest ≡ 0). inr (omega (arith, ready.to-above, ready.to-before a.positive)))
-            (λ (e : rest ≡ start w r + w). inl (omega arith)) rest-place;
-      };
-      blank = blank-none base₁ rest;
-    }
-
     module _ (z : f ≡ 0 → ⊥) {l₂ : List ℕ} {at : ℕ} (h₂ : Followed (start w r) after rest w l₁ l₂ at) (k₂ : length l₂ ≡ length l₁) where
       group : isTaxon o r ≡ false
       group = ne_eqb _ _ (λ e. z (a.first-is ∙ e))

@@ -18,9 +18,9 @@ use Rattle.laws.proofs.Best.{from-better}
 use Rattle.rows.specs.Rows.{Row, betterRow, joinRow}
 use Rattle.rows.proofs.Joins.{join-none, join-at, join-nothing}
 use Rattle.cells.specs.Cells.{cell, lockedOf, diversityOf, costOf, codeOf}
-use Rattle.cells.specs.Memory.{rowAt, Written, joinFrom, BetteringBy, Betters, Bettering, ChargesFrom, ChargingFrom, Joins, Joining}
-use Rattle.table.specs.Table.{IsTaxon, mostAbove, taxonWorth, TerminalFilled, Finished, TaxonJoins, TaxonRow, Base}
-use Rattle.table.specs.Spread.{Running, Bettered, Pairable, TaxonSpreadable, TaxonSpread, Tops, Meets, Met, BySingle, ByPairs, ByRow}
+use Rattle.cells.specs.Memory.{rowAt, Written, joinFrom, BetteringBy, Bettering, ChargingFrom, Joins, Joining}
+use Rattle.table.specs.Table.{taxonWorth, TerminalFilled, Finished, TaxonJoins, TaxonRow, Base}
+use Rattle.table.specs.Spread.{Running, Bettered, Pairable, TaxonSpreadable, TaxonSpread, Tops, BySingle, ByPairs, ByRow}
 use Rattle.table.proofs.Places.{base-kept, blank-none, idle-nothing, front-inside}
 use Rattle.table.proofs.Pushing.{small-locked, small-diversity, small-cost, small-code}
 use Rattle.cells.proofs.ByPrice.{le-or-lt, join-below, join-same, join-row}
@@ -263,9 +263,6 @@ module _ {o : List ℕ} {r rest above to w : ℕ} {l₀ l₁ : List ℕ} (s : Ta
   s₁ : TaxonSpreadable o r rest above to w l₁
   s₁ = spreadable-filled s h₁.written k₁
 
-  pub single-asks : (Running o w l₁ × IsTaxon o r) × (above ≤ mostAbove)
-  single-asks = ((s₁.pairs.running, s₁.pairs.is), s₁.above-most)
-
   module _ {l₂ : List ℕ} (h₂ : BySingle o r above w l₁ l₂) (k₂ : length l₂ ≡ length l₁) where
     pub pairs-ask : TaxonSpreadable o r rest above to w l₂ × Finished o r to w l₂
     pairs-ask = (spreadable-bettered s₁ h₂ k₂, finished-bettered s₁ h₂ (λ b h. h₁.written.row b (omega arith) h))
@@ -303,66 +300,11 @@ module _ {o : List ℕ} {r rest above to w : ℕ} {l₀ l₁ : List ℕ} (s : Ta
 
 -- ---- the running optimum bettered by the row at `to`, moved right by what is above it
 module _ {to above w : ℕ} {l : List ℕ} (s : Tops l to above w) where
-  top-inside : 2 * (2 * w + w) ≤ length l
-  top-inside = omega (arith, s.to-above, s.to-inside)
-
-  pub betters-top : Betters l (2 * w) (2 * w) to w
-  betters-top = record {
-    inside = top-inside;
-    first = record { inside = top-inside; aside = inl (omega arith) };
-    second = record { inside = s.to-inside; aside = inl (omega (arith, s.to-above)) };
-    blank = λ e. absurd (omega (arith, s.wide, s.to-above));
-  }
-
   pub bettered-here : above ≡ 0 → {m : List ℕ} → Bettering (2 * w) (2 * w) to w l m → ByRow to above w l m
   bettered-here z h = record {
     top = λ b k. h.row b (omega arith) k ∙ ap (betterOf (cell l (2 * w + b))) (sym (rw z (join-nothing (rowAt l to) b)));
     same = λ k g. h.same k (λ q. omega (arith, g (omega arith)));
   }
 
-  pub charges-top : ChargesFrom l (2 * w) to 0 above (2 * w) w
-  charges-top = record {
-    inside = top-inside;
-    moved = record { inside = s.to-inside; aside = inr (omega (arith, s.to-above)) };
-    over = record { inside = top-inside; aside = inl (omega arith) };
-    blank = λ e. absurd (omega (arith, s.wide));
-    fits = s.fits;
-  }
-
   pub bettered-moved : {m : List ℕ} → ChargingFrom (2 * w) to 0 above (2 * w) w l m → ByRow to above w l m
   bettered-moved v = bettered-from (heading 0 above) (rowAt l to) v
-
--- ---- a meeting of the crossing row at `to` and the two rows at `own`
-module _ {own to above w : ℕ} {l₀ l₁ : List ℕ} (s : Meets l₀ own to above w) (h₁ : ByRow to above w l₀ l₁) (k₁ : length l₁ ≡ length l₀) where
-  pub betters-own : Betters l₁ own own (own + w) w
-  betters-own = record {
-    inside = omega (arith, s.inside);
-    first = record { inside = omega (arith, s.inside); aside = inl (omega arith) };
-    second = record { inside = omega (arith, s.inside); aside = inl (omega arith) };
-    blank = λ e. absurd (omega (arith, s.top.wide));
-  }
-
-  module _ {l₂ : List ℕ} (h₂ : Bettering own own (own + w) w l₁ l₂) (k₂ : length l₂ ≡ length l₁) where
-    pub betters-row : Betters l₂ to own to w
-    betters-row = record {
-      inside = omega (arith, s.to-before, s.inside);
-      first = record { inside = omega (arith, s.inside); aside = inl (omega (arith, s.to-before)) };
-      second = record { inside = omega (arith, s.to-before, s.inside); aside = inl (omega arith) };
-      blank = λ e. absurd (omega (arith, s.top.to-above, s.top.wide));
-    }
-
-    pub met : {l₃ : List ℕ} → Bettering to own to w l₂ l₃ → Met own to above w l₀ l₃
-    met h₃ = record {
-      top = λ b k.
-          h₃.same (2 * w + b) (λ q. omega (arith, s.top.to-above)) ∙ h₂.same (2 * w + b) (λ q. omega (arith, s.top.to-above, s.to-before))
-          ∙ h₁.top b k;
-      row = λ b k.
-          h₃.row b (omega arith) k
-          ∙ ap₂ betterOf
-          (h₂.row b (omega arith) k
-          ∙ ap₂ betterOf (h₁.same (own + b) (λ q. omega (arith, s.top.to-above, s.to-before)))
-          (h₁.same (own + w + b) (λ q. omega (arith, s.top.to-above, s.to-before))))
-          (h₂.same (to + b) (λ q. omega (arith, s.to-before)) ∙ h₁.same (to + b) (λ q. omega (arith, s.top.to-above)));
-      same = λ k p q g.
-          h₃.same k (λ e. q (omega arith)) ∙ h₂.same k (λ e. omega arith) ∙ h₁.same k g;
-    }

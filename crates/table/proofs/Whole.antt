@@ -1,7 +1,7 @@
 -- The table filled, either way: its top row is the exhaustive search's value in each column.
 use Prim.Native.Nat.{ℕ, ◌+◌, ◌*◌, ◌<◌, ◌≤◌}
 use mathlib.Core.Path.{◌≡◌, sym, ap, ap₂, ◌∙◌}
-use mathlib.Core.Logic.{inl, inr}
+use mathlib.Core.Logic.{inr}
 use mathlib.Core.List.{List}
 use native.Mathlib.Omega.{arith}
 use lib.ListN.{length}
@@ -15,10 +15,10 @@ use Rattle.rows.specs.Rows.{rootedRow, topRow}
 use Rattle.rows.proofs.Bounds.{lockings-limit, branches-limit, prices-limit, codes-limit}
 use Rattle.rows.proofs.Steps.{pushed-same, under-none}
 use Rattle.cells.specs.Cells.{cell}
-use Rattle.cells.specs.Memory.{Written, Betters, Bettering}
+use Rattle.cells.specs.Memory.{Written, Bettering}
 use Rattle.table.specs.Table.{start, Base, Pushable, Pushed, Fillable, Filled, acrossFrom}
 use Rattle.table.specs.Spread.{Spreadable, Spread}
-use Rattle.table.proofs.Places.{base-kept, front-inside}
+use Rattle.table.proofs.Places.{base-kept}
 
 module _ {o : List ℕ} {w : ℕ} {l₀ : List ℕ} (s : Fillable o w l₀) where
   table-inside : 2 * start w (size o + 1) ≤ length l₀
@@ -59,14 +59,6 @@ module _ {o : List ℕ} {w : ℕ} {l₀ : List ℕ} (s : Fillable o w l₀) wher
     }
 
     module _ {l₃ : List ℕ} {at : ℕ} (h₃ : Pushed o 1 w (2 * w) w l₂ l₃ at) (k₃ : length l₃ ≡ length l₂) where
-      pub betters-root : Betters l₃ (2 * w) w (2 * w) w
-      betters-root = record {
-        inside = omega (arith, front-inside base₂);
-        first = record { inside = omega (arith, front-inside base₂); aside = inr (omega arith) };
-        second = record { inside = omega (arith, front-inside base₂); aside = inl (omega arith) };
-        blank = λ e. absurd (omega (arith, s.wide));
-      }
-
       pub filled-rooted : {way : ℕ} → way ≡ 0 → {l₄ : List ℕ} → Bettering (2 * w) w (2 * w) w l₃ l₄ → Filled o way w l₄
       unfolding topRow rootedRow
       filled-rooted {way} e v = record {
