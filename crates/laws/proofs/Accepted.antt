@@ -17,7 +17,7 @@ use Rattle.outline.specs.Outline.{size, records, next, first, branch, price, pla
 use Rattle.outline.specs.Answer.{sizeRows, recordRows, checked, isAccepted}
 use Rattle.outline.specs.WellFormed.{Later, Ranged, WellFormed}
 use Rattle.laws.proofs.Sums.{total-ext}
-use Rattle.outline.specs.Rules.{badField, stray, naming, named, badLink, taxaIn, taxa, hasPlate, isDuplicate, mostRecords, mostTaxa}
+use Rattle.outline.specs.Rules.{badField, stray, naming, named, badLink, taxaIn, taxa, hasPlate, isDuplicate, mostRecords, mostTaxa, mostLength, mostPrice}
 
 -- ---- no rule is broken
 module _ (o : List ℕ) (formed : WellFormed o) (r : ℕ) (l : 1 ≤ r) (u : r ≤ size o) where
@@ -26,12 +26,12 @@ module _ (o : List ℕ) (formed : WellFormed o) (r : ℕ) (l : 1 ≤ r) (u : r �
   good-field = go (isTaxon o r) refl (formed.ranged r l u)
     where
       go : (b : Bool) → isTaxon o r ≡ b → Ranged o r
-          → (ltb 1000000 (branch o r) || (ltb 65535 (price o r) || (if b then eqb (plate o r) 0 else not (eqb (plateField o r) 0)))) ≡ false
+          → (ltb mostLength (branch o r) || (ltb mostPrice (price o r) || (if b then eqb (plate o r) 0 else not (eqb (plateField o r) 0)))) ≡ false
       go true t g =
           let p = g.taxon-plate t in
-          rw (le-ltb 1000000 (branch o r) g.branch-most, le-ltb 65535 (price o r) g.price-most, ne_eqb (plate o r) 0 (λ e. omega arith))
+          rw (le-ltb mostLength (branch o r) g.branch-most, le-ltb mostPrice (price o r) g.price-most, ne_eqb (plate o r) 0 (λ e. omega arith))
       go false t g =
-          rw (le-ltb 1000000 (branch o r) g.branch-most, le-ltb 65535 (price o r) g.price-most, eq-eqb (plateField o r) 0 (g.group-plate t))
+          rw (le-ltb mostLength (branch o r) g.branch-most, le-ltb mostPrice (price o r) g.price-most, eq-eqb (plateField o r) 0 (g.group-plate t))
 
   good-stray : (q : ℕ) → Later o r q → stray o r q ≡ false
   good-stray q later = go (eqb q 0) refl

@@ -1,6 +1,6 @@
 -- Sums over all records are recursion over the links: each record stands once in the forest of record 1.
 use Rattle.std.specs.Prelude.{if◌then◌else◌}
-use Prim.Native.Nat.{ℕ, zero, suc, ◌+◌, ◌≤◌, ◌<◌}
+use Prim.Native.Nat.{ℕ, zero, suc, ◌+◌, ◌*◌, ◌≤◌, ◌<◌}
 use mathlib.Core.Path.{◌≡◌, refl, sym, ap, ap₂, subst, ◌∙◌}
 use mathlib.Core.Bool.{Bool, true, false}
 use mathlib.Core.List.{List, [], ◌∷◌, ◌++◌}
@@ -12,7 +12,7 @@ use Rattle.outline.specs.Outline.{size, next, first, records, isTaxon}
 use Rattle.outline.specs.WellFormed.{Linked}
 use Rattle.diversity.specs.Diversity.{chain}
 use Rattle.laws.specs.Forest.{Forest, empty, node, sumIn, countIn, shape, tree}
-use Rattle.laws.proofs.Sums.{occurs, occurs-most, total-append}
+use Rattle.laws.proofs.Sums.{occurs, occurs-most, total-append, total-most}
 use Rattle.laws.proofs.Links.{Namer, by-next, by-first, namer, total-by-links}
 
 -- the records of a forest
@@ -94,6 +94,13 @@ module _ (o : List ℕ) (linked : Linked o) where
   sum-part w (suc r) u =
       reach (λ q. sumIn w (tree o q) ≤ total (λ q. w q (tree o (first o q))) (records o)) (omega (arith, sum-all w))
       (λ q l u h. let e = ap (sumIn w) (tree-step q l u) in (omega arith, omega arith)) (suc r) (suc r) (omega arith) (omega arith) u
+
+  -- so it is at most as many times k as there are records, where no term is greater than k
+  pub sum-most : (w : ℕ → Forest → ℕ) (k r : ℕ) → r ≤ size o → ((q : ℕ) (f : Forest) → 1 ≤ q → q ≤ size o → w q f ≤ k)
+      → sumIn w (tree o r) ≤ size o * k
+  unfolding records
+  sum-most w k r u h =
+      omega (arith, sum-part w r u, total-most (λ q. w q (tree o (first o q))) k 1 (size o) (λ q l v. h q _ l (omega arith)))
 
   -- the records of a forest are the outline's, each at most once
   pub inside : (r : ℕ) → r ≤ size o → (t : ℕ) → countIn t (tree o r) ≤ occurs t (records o)

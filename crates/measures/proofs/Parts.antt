@@ -9,49 +9,43 @@ use lib.Dec.{eqb}
 use mir.Val.{bool_byte}
 use Rattle.lists.specs.Lists.{one, positive}
 use Rattle.lists.proofs.Bools.{byte-one, one-le, if-most}
-use Rattle.outline.specs.Outline.{size, next, first, branch, price, records}
+use Rattle.outline.specs.Outline.{size, next, first, branch, price}
 use Rattle.outline.specs.WellFormed.{WellFormed}
 use Rattle.diversity.specs.Diversity.{chosen, rooted, unrooted, diversity, chosenTaxa}
 use Rattle.laws.specs.Forest.{Forest, node, sumIn, tree}
-use Rattle.laws.proofs.Sums.{total-most}
-use Rattle.laws.proofs.Forest.{tree-zero, tree-step, sum-part}
+use Rattle.laws.proofs.Forest.{tree-zero, tree-step, sum-most}
 use Rattle.laws.proofs.ByTree.{cost-tree, taxa-tree, rooted-crossing, unrooted-crossing}
 use Rattle.measures.specs.Measures.{Measurable, Measured}
 use Rattle.measures.specs.Inner.{Addable, Added, Marked, cladeOf, InClade, CladeMeasured, ChainMeasured}
 use Rattle.measures.specs.declared.figures.Measure.{Measure}
-use Rattle.outline.specs.Rules.{mostRecords}
+use Rattle.outline.specs.Rules.{mostRecords, mostLength, mostPrice}
 use Rattle.laws.specs.Measures.{chosenIn, costIn, crossing}
 
 -- ---- how large the sums are
 pub record SumsBounded (taxa cost diversity : ℕ) : Type 0 where
   pub taxa-most : taxa ≤ mostRecords
-  pub cost-most : cost ≤ mostRecords * 65535
-  pub diversity-most : diversity ≤ mostRecords * 1000000
+  pub cost-most : cost ≤ mostRecords * mostPrice
+  pub diversity-most : diversity ≤ mostRecords * mostLength
 
 abbrev SumsBoundedIn : List ℕ → List ℕ → ℕ → Forest → Type 0
 SumsBoundedIn o s all F = SumsBounded (chosenIn (chosen s) F) (costIn o (chosen s) F) (sumIn (crossing o (chosen s) all) F)
 
 module _ (o : List ℕ) (formed : WellFormed o) (s : List ℕ) (all : ℕ) where
-  most : (w : ℕ → Forest → ℕ) (k r : ℕ) → r ≤ size o → ((q : ℕ) (f : Forest) → 1 ≤ q → q ≤ size o → w q f ≤ k) → sumIn w (tree o r) ≤ size o * k
-  unfolding records
-  most w k r u h =
-      omega (arith, sum-part o formed.linked w r u, total-most (λ q. w q (tree o (first o q))) k 1 (size o) (λ q l v. h q _ l (omega arith)))
-
   pub tree-small : (r : ℕ) → r ≤ size o → SumsBoundedIn o s all (tree o r)
   tree-small r u =
       let few = formed.size-most in
       record {
-        taxa-most = omega (arith, most (λ q f. one (chosen s q)) 1 r u (λ q f l v. one-le (chosen s q)));
+        taxa-most = omega (arith, sum-most o formed.linked (λ q f. one (chosen s q)) 1 r u (λ q f l v. one-le (chosen s q)));
         cost-most =
             omega (
               arith,
-              most (λ q f. if positive (one (chosen s q) + chosenIn (chosen s) f) then price o q else 0) 65535 r u
+              sum-most o formed.linked (λ q f. if positive (one (chosen s q) + chosenIn (chosen s) f) then price o q else 0) mostPrice r u
                   (λ q f l v. omega (arith, if-most (positive (one (chosen s q) + chosenIn (chosen s) f)) (price o q), (formed.ranged q l v).price-most)),
             );
         diversity-most =
             omega (
               arith,
-              most (crossing o (chosen s) all) 1000000 r u
+              sum-most o formed.linked (crossing o (chosen s) all) mostLength r u
                   (λ q f l v. omega (
                     arith,
                     if-most (positive (one (chosen s q) + chosenIn (chosen s) f) && positive (all - (one (chosen s q) + chosenIn (chosen s) f))) (branch o q),

@@ -12,15 +12,15 @@ use Rattle.laws.specs.Forest.{Forest, empty, node, tree}
 use Rattle.laws.specs.Candidate.{Cand, From, nothing, this}
 use Rattle.laws.specs.Locks.{locks}
 use Rattle.laws.specs.Numbers.{weight}
-use Rattle.laws.proofs.Sums.{total-ext, total-most}
-use Rattle.laws.proofs.Forest.{tree-step, sum-part}
+use Rattle.laws.proofs.Sums.{total-ext}
+use Rattle.laws.proofs.Forest.{tree-step, sum-part, sum-most}
 use Rattle.laws.proofs.Best.{from-better, from-same}
 use Rattle.laws.proofs.Locks.{locks-most}
 use Rattle.laws.proofs.Numbers.{weights-below}
 use Rattle.rows.specs.Rows.{Row, betterRow, isLeaf, taxonRooted, headingRooted, cladeRow, pushed, rootedRow}
 use Rattle.rows.proofs.BestRows.{from-join-row}
 use Rattle.rows.proofs.Steps.{leaf-taxon}
-use Rattle.outline.specs.Rules.{taxa, taxaIn, mostRecords, mostTaxa}
+use Rattle.outline.specs.Rules.{taxa, taxaIn, mostRecords, mostTaxa, mostLength, mostPrice}
 use Rattle.laws.specs.Measures.{lock}
 use Rattle.rows.specs.Bounds.{lockings, prices, allIn, Bounded, codes, branches, BoundedRow}
 
@@ -60,9 +60,6 @@ module _ (o : List ℕ) (weigh : ℕ → ℕ) where
 
 -- the same by links, and against the sums over all records
 module _ (o : List ℕ) (linked : Linked o) (w : ℕ → ℕ) (r : ℕ) (u : r ≤ size o) where
-  pub all-most : allIn w (tree o r) ≤ total w (records o)
-  all-most = sum-part o linked (λ q f. w q) r u
-
   pub all-step : 1 ≤ r → allIn w (tree o r) ≡ w r + (allIn w (tree o (first o r)) + allIn w (tree o (next o r)))
   all-step l = ap (allIn w) (tree-step o linked r l u)
 
@@ -81,21 +78,17 @@ module _ (o : List ℕ) (linked : Linked o) (weigh : ℕ → ℕ) (r : ℕ) (u :
     pub codes-step : codes weigh (tree o r) ≡ (if isTaxon o r then weigh r else 0) + (codes weigh (tree o (first o r)) + codes weigh (tree o (next o r)))
     codes-step = ap (codes weigh) (tree-step o linked r l u) ∙ rw (leaf-taxon o linked r l u)
 
--- what an accepted outline allows: 127 records with branches of a million and prices of 65,535, 64 taxa
+-- what an accepted outline allows
 module _ (o : List ℕ) (formed : WellFormed o) (r : ℕ) (u : r ≤ size o) where
-  all-limit : (w : ℕ → ℕ) (k : ℕ) → ((q : ℕ) → 1 ≤ q → q ≤ size o → w q ≤ k) → allIn w (tree o r) ≤ size o * k
-  unfolding records
-  all-limit w k most = omega (arith, all-most o formed.linked w r u, total-most w k 1 (size o) (λ q l h. most q l (omega arith)))
+  pub branches-limit : branches o (tree o r) ≤ mostRecords * mostLength
+  branches-limit = omega (arith, formed.size-most, sum-most o formed.linked (λ q f. branch o q) mostLength r u (λ q f l h. (formed.ranged q l h).branch-most))
 
-  pub branches-limit : branches o (tree o r) ≤ mostRecords * 1000000
-  branches-limit = omega (arith, formed.size-most, all-limit (branch o) 1000000 (λ q l h. (formed.ranged q l h).branch-most))
-
-  pub prices-limit : prices o (tree o r) ≤ mostRecords * 65535
-  prices-limit = omega (arith, formed.size-most, all-limit (price o) 65535 (λ q l h. (formed.ranged q l h).price-most))
+  pub prices-limit : prices o (tree o r) ≤ mostRecords * mostPrice
+  prices-limit = omega (arith, formed.size-most, sum-most o formed.linked (λ q f. price o q) mostPrice r u (λ q f l h. (formed.ranged q l h).price-most))
 
   pub lockings-limit : lockings o (tree o r) ≤ mostTaxa
   unfolding locks
-  lockings-limit = omega (arith, all-most o formed.linked (lock o) r u, locks-most o, formed.taxa-most)
+  lockings-limit = omega (arith, sum-part o formed.linked (λ q f. lock o q) r u, locks-most o, formed.taxa-most)
 
   pub codes-limit : codes (weight o) (tree o r) < 2 ^ mostTaxa
   unfolding taxa taxaIn

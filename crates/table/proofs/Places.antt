@@ -2,6 +2,7 @@
 use Rattle.std.specs.Prelude.{if◌then◌else◌}
 use Prim.Native.Nat.{ℕ, ◌+◌, ◌*◌, ◌<◌, ◌≤◌}
 use mathlib.Core.Path.{◌≡◌, ap, ◌∙◌}
+use mathlib.Core.Logic.{◌≢◌}
 use mathlib.Core.List.{List}
 use native.Mathlib.Omega.{arith}
 use native.Mathlib.Nat.{mul-le-mul_right}
@@ -64,6 +65,9 @@ pub record At (o : List ℕ) (r w : ℕ) (l : List ℕ) (n f : ℕ) : Type 0 whe
   pub most : r ≤ size o
   pub next-is : n ≡ next o r
   pub first-is : f ≡ first o r
+
+pub at-links : {o : List ℕ} {r w : ℕ} {l : List ℕ} {n f : ℕ} → Base o w l → r ≤ size o → r ≢ 0 → n ≡ next o r → f ≡ first o r → At o r w l n f
+at-links base u some e h = record { base = base; positive = omega arith; most = u; next-is = e; first-is = h }
 
 module _ {o : List ℕ} {r w : ℕ} {l : List ℕ} {n f : ℕ} (a : At o r w l n f) where
   pub to-next : Later o r n

@@ -10,12 +10,12 @@ use lib.Dec.{eqb}
 use lib.ListN.{length}
 use borrow.Author.Tests.{eq-eqb, ne_eqb}
 use Rattle.outline.specs.Outline.{size, next, branch, price, records, isTaxon}
+use Rattle.outline.specs.Rules.{mostRecords}
 use Rattle.outline.specs.WellFormed.{WellFormed}
 use Rattle.laws.specs.Candidate.{plus, nothingWorth, heading, none, some, betterOf, joinOf, oneAt}
 use Rattle.laws.specs.Forest.{tree}
 use Rattle.laws.specs.Numbers.{weight}
-use Rattle.laws.proofs.Sums.{total-most}
-use Rattle.laws.proofs.Forest.{tree-zero, tree-step, sum-part}
+use Rattle.laws.proofs.Forest.{tree-zero, tree-step, sum-most}
 use Rattle.laws.proofs.Order.{value-path, better-none}
 use Rattle.rows.specs.Rows.{betterRow, joinRow, taxonRooted, taxonUnrooted, headingRooted, cladeRow, rootedRow, aloneRow, acrossRow, acrossUnder}
 use Rattle.rows.proofs.Bounds.{rooted-small, lockings-limit, branches-limit, codes-limit}
@@ -46,10 +46,8 @@ module _ (o : List ℕ) (formed : WellFormed o) (b : ℕ) where
 records-zero : (o : List ℕ) → recordsIn (tree o 0) ≡ 0
 records-zero o = ap recordsIn (tree-zero o)
 
-pub records-most : (o : List ℕ) → WellFormed o → (r : ℕ) → r ≤ size o → recordsIn (tree o r) ≤ size o
-unfolding records
-records-most o formed r u =
-    omega (arith, sum-part o formed.linked (λ q f. 1) r u, total-most (λ q. 1) 1 1 (size o) (λ q l h. omega arith))
+pub records-most : {o : List ℕ} {r count : ℕ} → WellFormed o → r ≤ size o → count ≡ recordsIn (tree o r) → count ≤ mostRecords
+records-most {o} {r} formed u e = omega (arith, e, sum-most o formed.linked (λ q f. 1) 1 r u (λ q f l h. omega arith), formed.size-most)
 
 pub spread-none : {o : List ℕ} {above to w : ℕ} {l : List ℕ} → Spreadable o 0 above to w l → Spread o 0 above to w l l 0
 spread-none {o} {above} {to} {w} {l} s = record {

@@ -9,7 +9,7 @@ use Rattle.rows.specs.Rows.{Row, pushed, rootedRow, acrossUnder, aloneRow, cross
 use Rattle.rows.specs.Worth.{rootedWorth}
 use Rattle.cells.specs.Cells.{unit, lift, cell, Joinable}
 use Rattle.cells.specs.Memory.{rowAt, Written, Beside, joinOver}
-use Rattle.outline.specs.Rules.{mostRecords}
+use Rattle.outline.specs.Rules.{mostRecords, mostPrice}
 use Rattle.laws.specs.Measures.{lock, rootedIn}
 use Rattle.rows.specs.Bounds.{BoundedRow, lockings, branches, codes}
 
@@ -26,7 +26,7 @@ taxonWorth o r d c = record { locked = lock o r; diversity = d; cost = c; code =
 
 -- all prices together
 abbrev pub mostAbove : ℕ
-mostAbove = mostRecords * 65535
+mostAbove = mostRecords * mostPrice
 
 -- the row of taxon r by itself: nothing chosen in each column below the price, and the taxon, at its length, in each from the
 -- price on

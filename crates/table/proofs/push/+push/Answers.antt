@@ -1,46 +1,40 @@
-use Rattle.std.proofs.Common.{◌≡◌, ◌≢◌, ℕ, List, refl, arith}
-use Rattle.outline.specs.Outline.{next, first}
+use Rattle.std.proofs.Common.{refl, arith}
 use Rattle.outline.proofs.WellFormed.{left-less}
-use Rattle.table.specs.Table.{Pushable}
-use Rattle.table.proofs.Places.{terminal-fills, At, to-next, to-first}
+use Rattle.table.proofs.Places.{terminal-fills, at-links, to-next, to-first}
 use Rattle.table.proofs.Pushing.{done-none, ready-next, base₁, joins-taxon, done-taxon, ready-first, charges, done-group}
 use Rattle.table.proofs.Terminal.{joins-kept, row-kept}
 use Rattle.table.proofs.push.+push.Goals as goal
-
--- where the links of r are read
-at-links : {o : List ℕ} {r after to w : ℕ} {l : List ℕ} {n f : ℕ} → Pushable o r after to w l → r ≢ 0 → n ≡ next o r → f ≡ first o r → At o r w l n f
-at-links ready h e e' = record { base = ready.base; positive = omega arith; most = ready.most; next-is = e; first-is = e' }
 
 pub returns-then-r-eq0 : goal.returns-then-r-eq0
 returns-then-r-eq0 t c = rw c.if-r-eq0.true (done-none _ _ _ _ c.requires.base)
 
 pub push-rest-requires : goal.push-rest-requires
 push-rest-requires t c =
-    let a = at-links c.requires c.if-r-eq0.false c.next_of-n.ensures refl in
+    let a = at-links c.requires.base c.requires.most c.if-r-eq0.false c.next_of-n.ensures refl in
     (omega (arith, left-less _ _ _ a.positive a.most (to-next a), c.decreases), ready-next c.requires a)
 
 pub terminal_row-requires : goal.terminal_row-requires
 terminal_row-requires t c =
-    let a = at-links c.requires c.if-r-eq0.false c.next_of-n.ensures c.first_of-f.ensures in
+    let a = at-links c.requires.base c.requires.most c.if-r-eq0.false c.next_of-n.ensures c.first_of-f.ensures in
     let j = joins-taxon c.requires a c.push-rest.ensures c.push-rest.auto.work c.if-f-eq0.true in
     terminal-fills (base₁ c.requires a c.push-rest.ensures c.push-rest.auto.work) j.is (omega (arith, j.inside))
 
 pub join_terminal-requires-clause-taxon_joins : goal.join_terminal-requires-clause-taxon_joins
 join_terminal-requires-clause-taxon_joins t c =
-    let a = at-links c.requires c.if-r-eq0.false c.next_of-n.ensures c.first_of-f.ensures in
+    let a = at-links c.requires.base c.requires.most c.if-r-eq0.false c.next_of-n.ensures c.first_of-f.ensures in
     joins-kept (joins-taxon c.requires a c.push-rest.ensures c.push-rest.auto.work c.if-f-eq0.true) (omega arith)
     c.terminal_row.ensures.written c.terminal_row.auto.work
 
 pub returns-then-f-eq0 : goal.returns-then-f-eq0
 returns-then-f-eq0 t c =
-    let a = at-links c.requires c.if-r-eq0.false c.next_of-n.ensures c.first_of-f.ensures in
+    let a = at-links c.requires.base c.requires.most c.if-r-eq0.false c.next_of-n.ensures c.first_of-f.ensures in
     let j = joins-taxon c.requires a c.push-rest.ensures c.push-rest.auto.work c.if-f-eq0.true in
     done-taxon c.requires a c.push-rest.ensures c.push-rest.auto.work c.if-f-eq0.true
     (row-kept j c.terminal_row.ensures.written c.join_terminal.ensures)
 
 pub push-requires : goal.push-requires
 push-requires t c =
-    let a = at-links c.requires c.if-r-eq0.false c.next_of-n.ensures c.first_of-f.ensures in (
+    let a = at-links c.requires.base c.requires.most c.if-r-eq0.false c.next_of-n.ensures c.first_of-f.ensures in (
       omega (arith, left-less _ _ _ a.positive a.most (to-first a), c.decreases),
       ready-first c.requires a c.push-rest.ensures c.push-rest.auto.work c.if-f-eq0.false c.follow_row-follow.ensures
           c.follow_row-follow.auto.work,
@@ -48,14 +42,14 @@ push-requires t c =
 
 pub charge_row-requires : goal.charge_row-requires
 charge_row-requires t c =
-    let a = at-links c.requires c.if-r-eq0.false c.next_of-n.ensures c.first_of-f.ensures in
+    let a = at-links c.requires.base c.requires.most c.if-r-eq0.false c.next_of-n.ensures c.first_of-f.ensures in
     rw (c.branch_of-branch.ensures, c.price_of-price.ensures)
     (charges c.requires a c.push-rest.ensures c.push-rest.auto.work c.if-f-eq0.false c.follow_row-follow.ensures
     c.follow_row-follow.auto.work c.push.ensures c.push.auto.work)
 
 pub returns : goal.returns
 returns t c =
-    let a = at-links c.requires c.if-r-eq0.false c.next_of-n.ensures c.first_of-f.ensures in
+    let a = at-links c.requires.base c.requires.most c.if-r-eq0.false c.next_of-n.ensures c.first_of-f.ensures in
     done-group c.requires a c.push-rest.ensures c.push-rest.auto.work c.if-f-eq0.false c.follow_row-follow.ensures
     c.follow_row-follow.auto.work c.push.ensures c.push.auto.work
     (rw (c.branch_of-branch.ensures, c.price_of-price.ensures) at c.charge_row.ensures)
