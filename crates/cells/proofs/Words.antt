@@ -1,6 +1,6 @@
 -- A candidate's two words: which of two is better, two joined, one charged with a branch.
 use Rattle.std.specs.Prelude.{if◌then◌else◌}
-use Prim.Native.Nat.{ℕ, ◌+◌, ◌*◌, ◌-◌, ◌/◌, ◌%◌, ◌^◌, ◌<◌, ◌≤◌}
+use Prim.Native.Nat.{ℕ, ◌+◌, ◌*◌, ◌-◌, ◌/◌, ◌%◌, ◌<◌, ◌≤◌}
 use mathlib.Core.Path.{◌≡◌, refl, sym, ap, ◌∙◌}
 use mathlib.Core.Logic.{◌≢◌, inl, inr, ⊎_elim}
 use mathlib.Core.Bool.{Bool, true, false, ◌||◌, ◌&&◌}
@@ -10,7 +10,7 @@ use lib.Dec.{eqb, ltb}
 use borrow.Author.Tests.{lt-ltb, le-ltb, eq-eqb, ne_eqb, eqb-true, eqb-false, ltb-true, ltb-false}
 use Rattle.laws.specs.Candidate.{Value, plus, nothingWorth, heading, none, some, beats, betterOf, joinOf, chargeOf}
 use Rattle.laws.proofs.Order.{Beats, more-locked, more, cheaper, earlier, AtLeast, value-path, beats-true, beats-false}
-use Rattle.cells.specs.Cells.{unit, lift, seen, lockedOf, diversityOf, costOf, codeOf, Joinable, Chargeable}
+use Rattle.cells.specs.Cells.{unit, lift, wordLimit, seen, lockedOf, diversityOf, costOf, codeOf, Joinable, Chargeable}
 
 -- the value of a score that isn't 0
 abbrev valueOf : ℕ → ℕ → Value
@@ -105,7 +105,7 @@ module _ (s m t n : ℕ) where
     joinable-words : Joinable (some (valueOf s m)) (some (valueOf t n))
     joinable-words = rw (seen-some s m h, seen-some t n k) at j
 
-    pub join-bounds : (s + t < 2 ^ 64) × (unit ≤ s + t) × (m + n < 2 ^ 64)
+    pub join-bounds : (s + t < wordLimit) × (unit ≤ s + t) × (m + n < wordLimit)
     unfolding lockedOf diversityOf costOf codeOf
     join-bounds = (
       omega (arith, joinable-words.locked-fits, joinable-words.diversity-fits, joinable-words.cost-fits),
@@ -141,7 +141,7 @@ module _ (s m b p : ℕ) where
     chargeable-words : Chargeable (some (valueOf s m)) b p
     chargeable-words = rw (seen-some s m h) at j
 
-    pub charge-bounds : (b < lift) × (s + b * unit < 2 ^ 64) × (p ≤ s + b * unit)
+    pub charge-bounds : (b < lift) × (s + b * unit < wordLimit) × (p ≤ s + b * unit)
     unfolding lockedOf diversityOf costOf
     charge-bounds =
         let d = chargeable-words.diversity-fits in

@@ -12,6 +12,10 @@ unit = 65536
 abbrev pub lift : ℕ
 lift = 4294967296
 
+-- a set's code is a number of one word, below this
+abbrev pub wordLimit : ℕ
+wordLimit = 2 ^ 64
+
 -- the candidate of a score and a set; the score is (locked times the lift, and diversity + 1) times the unit, less the cost, or 0 for none
 unfoldable pub seen : ℕ → ℕ → Cand
 seen score set =
@@ -42,7 +46,7 @@ pub record Joinable (c d : Cand) : Type 0 where
   pub locked-fits : lockedOf c + lockedOf d < unit - 1
   pub diversity-fits : diversityOf c + diversityOf d < lift
   pub cost-fits : costOf c + costOf d < unit
-  pub code-fits : codeOf c + codeOf d < 2 ^ 64
+  pub code-fits : codeOf c + codeOf d < wordLimit
 
 -- a candidate charged with a heading keeps to its words
 pub record Chargeable (c : Cand) (branch price : ℕ) : Type 0 where

@@ -31,8 +31,8 @@ abbrev SumsBoundedIn : List ℕ → List ℕ → ℕ → Forest → Type 0
 SumsBoundedIn o s all F = SumsBounded (chosenIn (chosen s) F) (costIn o (chosen s) F) (sumIn (crossing o (chosen s) all) F)
 
 module _ (o : List ℕ) (formed : WellFormed o) (s : List ℕ) (all : ℕ) where
-  pub tree-small : (r : ℕ) → r ≤ size o → SumsBoundedIn o s all (tree o r)
-  tree-small r u =
+  pub tree-bounded : (r : ℕ) → r ≤ size o → SumsBoundedIn o s all (tree o r)
+  tree-bounded r u =
       let few = formed.size-most in
       record {
         taxa-most = omega (arith, sum-most o formed.linked (λ q f. one (chosen s q)) 1 r u (λ q f l v. one-le (chosen s q)));
@@ -61,23 +61,23 @@ module _ {o : List ℕ} {r : ℕ} {s : List ℕ} {all : ℕ} {members : Measure}
   below-is = omega (arith, h.below.taxa-is)
 
   -- whatever the record counts of itself, the sums keep to 32 bits
-  small : SumsBoundedIn o s all (tree o (first o r))
-  small =
+  members-bounded : SumsBoundedIn o s all (tree o (first o r))
+  members-bounded =
       let formed = h.base.formed in
-      tree-small o formed s all (first o r) (formed.linked.first-later r h.is-record.low h.is-record.high).most
+      tree-bounded o formed s all (first o r) (formed.linked.first-later r h.is-record.low h.is-record.high).most
 
   pub taxa-fit : (own : Bool) → members.taxa + bool_byte own < 2 ^ 32
-  taxa-fit own = omega (arith, h.below.taxa-is, small.taxa-most, byte-one own, one-le own)
+  taxa-fit own = omega (arith, h.below.taxa-is, members-bounded.taxa-most, byte-one own, one-le own)
 
   pub cost-fits : {v : ℕ} (b : Bool) → v ≡ (if b then price o r else 0) → members.cost + v < 2 ^ 32
   cost-fits b e =
       let ranged = h.base.formed.ranged r h.is-record.low h.is-record.high in
-      omega (arith, e, if-most b (price o r), ranged.price-most, h.below.cost-is, small.cost-most)
+      omega (arith, e, if-most b (price o r), ranged.price-most, h.below.cost-is, members-bounded.cost-most)
 
   pub diversity-fits : {v : ℕ} (b : Bool) → v ≡ (if b then branch o r else 0) → members.diversity + v < 2 ^ 32
   diversity-fits b e =
       let ranged = h.base.formed.ranged r h.is-record.low h.is-record.high in
-      omega (arith, e, if-most b (branch o r), ranged.branch-most, h.below.diversity-is, small.diversity-most)
+      omega (arith, e, if-most b (branch o r), ranged.branch-most, h.below.diversity-is, members-bounded.diversity-most)
 
   pub cost-counted : {b p : ℕ} → b ≡ members.taxa + one (chosen s r) → p ≡ (if positive b then price o r else 0)
       → members.cost + p ≡ costIn o (chosen s) (cladeOf o r)
@@ -113,7 +113,7 @@ module _ {o : List ℕ} {s : List ℕ} {all : ℕ} where
 
     pub parts-addable : Addable own rest
     parts-addable =
-        let small = tree-small o base.formed s all r u in
+        let small = tree-bounded o base.formed s all r u in
         record {
           taxa-fit = omega (arith, taxa-sum, small.taxa-most);
           cost-fits = omega (arith, cost-sum, small.cost-most);
@@ -127,7 +127,7 @@ module _ {o : List ℕ} {s : List ℕ} {all : ℕ} where
 pub taxa-few : {o s : List ℕ} {v : ℕ} → Measurable o s → v ≡ chosenTaxa o s → Marked o s v
 taxa-few {o} {s} base e = record {
   taxa-is = e;
-  few = omega (arith, taxa-tree o base.formed.linked s, (tree-small o base.formed s 0 1 base.formed.linked.filled).taxa-most);
+  few = omega (arith, taxa-tree o base.formed.linked s, (tree-bounded o base.formed s 0 1 base.formed.linked.filled).taxa-most);
 }
 
 by-way : (o s : List ℕ) (way all : ℕ) → Measurable o s → all ≡ chosenTaxa o s + one (eqb way 0) → chosenTaxa o s ≡ chosenIn (chosen s) (tree o 1)

@@ -24,39 +24,39 @@ use Rattle.outline.specs.Rules.{taxa, taxaIn, mostRecords, mostTaxa, mostLength,
 use Rattle.laws.specs.Measures.{lock}
 use Rattle.rows.specs.Bounds.{lockings, prices, allIn, Bounded, codes, branches, BoundedRow}
 
-pub small-more : {k d m : ℕ} (l e n : ℕ) {b : ℕ} {c : Cand} → k ≤ l → d ≤ e → m ≤ n → From (Bounded k d m) b c → From (Bounded l e n) b c
-small-more l e n g h i = from-same (λ v s. record { locked-most = omega arith; diversity-most = omega arith; code-most = omega arith })
+pub bounded-more : {k d m : ℕ} (l e n : ℕ) {b : ℕ} {c : Cand} → k ≤ l → d ≤ e → m ≤ n → From (Bounded k d m) b c → From (Bounded l e n) b c
+bounded-more l e n g h i = from-same (λ v s. record { locked-most = omega arith; diversity-most = omega arith; code-most = omega arith })
 
 module _ (o : List ℕ) (weigh : ℕ → ℕ) where
-  clade-small : (r : ℕ) (f : Forest) (k d m : ℕ) {x : Row} (g : Row) (b : ℕ) → BoundedRow k d m b x
+  clade-bounded : (r : ℕ) (f : Forest) (k d m : ℕ) {x : Row} (g : Row) (b : ℕ) → BoundedRow k d m b x
       → BoundedRow (k + lockings o f) (d + branches o f) (m + codes weigh f) b g
       → From (Bounded (k + (lock o r + lockings o f)) (d + (branch o r + branches o f)) (m + ((if isLeaf f then weigh r else 0) + codes weigh f))) b
       (cladeRow o weigh r (isLeaf f) x g b)
   unfolding cladeRow
-  clade-small r empty k d m {x} g b hx hg =
+  clade-bounded r empty k d m {x} g b hx hg =
       from-same (λ v (q, s, e). rw e (record { locked-most = omega arith; diversity-most = omega arith; code-most = omega arith }))
       (from-join-row (taxonRooted o weigh r) x b (hx (b - price o r) (omega arith)))
-  clade-small r (node s h n) k d m g b hx hg =
+  clade-bounded r (node s h n) k d m g b hx hg =
       from-same (λ v (q, s, e). rw e (record { locked-most = omega arith; diversity-most = omega arith; code-most = omega arith }))
       (from-join-row (headingRooted o weigh r) g b (hg (b - price o r) (omega arith)))
 
   -- pushing adds at most the forest's locks, branches and codes
-  pub pushed-small : (F : Forest) (k d m n : ℕ) {x : Row} → BoundedRow k d m n x
+  pub pushed-bounded : (F : Forest) (k d m n : ℕ) {x : Row} → BoundedRow k d m n x
       → BoundedRow (k + lockings o F) (d + branches o F) (m + codes weigh F) n (pushed o weigh F x)
   unfolding pushed
-  pushed-small empty k d m n hx b l = nothing
-  pushed-small (node r f q) k d m n {x} hx b l =
-      let y = pushed-small q k d m n hx in
+  pushed-bounded empty k d m n hx b l = nothing
+  pushed-bounded (node r f q) k d m n {x} hx b l =
+      let y = pushed-bounded q k d m n hx in
       let follow : BoundedRow (k + lockings o q) (d + branches o q) (m + codes weigh q) n (betterRow x (pushed o weigh q x)) =
-      λ i h. from-better (small-more _ _ _ (omega arith) (omega arith) (omega arith) (hx i h)) (y i h) in
-      let z = clade-small r f _ _ _ _ b (λ i h. follow i (omega arith)) (λ i h. pushed-small f _ _ _ n follow i (omega arith)) in
-      from-better (small-more _ _ _ (omega arith) (omega arith) (omega arith) z) (small-more _ _ _ (omega arith) (omega arith) (omega arith) (y b l))
+      λ i h. from-better (bounded-more _ _ _ (omega arith) (omega arith) (omega arith) (hx i h)) (y i h) in
+      let z = clade-bounded r f _ _ _ _ b (λ i h. follow i (omega arith)) (λ i h. pushed-bounded f _ _ _ n follow i (omega arith)) in
+      from-better (bounded-more _ _ _ (omega arith) (omega arith) (omega arith) z) (bounded-more _ _ _ (omega arith) (omega arith) (omega arith) (y b l))
 
-  pub rooted-small : (F : Forest) (b : ℕ) → From (Bounded (lockings o F) (branches o F) (codes weigh F)) b (rootedRow o weigh F b)
+  pub rooted-bounded : (F : Forest) (b : ℕ) → From (Bounded (lockings o F) (branches o F) (codes weigh F)) b (rootedRow o weigh F b)
   unfolding rootedRow
-  rooted-small F b =
-      small-more _ _ _ (omega arith) (omega arith) (omega arith)
-      (pushed-small F 0 0 0 b (λ i l. this (record { locked-most = omega arith; diversity-most = omega arith; code-most = omega arith }) (omega arith)) b (omega arith))
+  rooted-bounded F b =
+      bounded-more _ _ _ (omega arith) (omega arith) (omega arith)
+      (pushed-bounded F 0 0 0 b (λ i l. this (record { locked-most = omega arith; diversity-most = omega arith; code-most = omega arith }) (omega arith)) b (omega arith))
 
 -- the same by links, and against the sums over all records
 module _ (o : List ℕ) (linked : Linked o) (w : ℕ → ℕ) (r : ℕ) (u : r ≤ size o) where

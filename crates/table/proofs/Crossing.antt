@@ -16,14 +16,14 @@ use Rattle.laws.proofs.Order.{better-none}
 use Rattle.laws.proofs.Best.{from-same}
 use Rattle.rows.specs.Rows.{headingRooted, cladeRow, aloneRow, crossRow}
 use Rattle.rows.proofs.BestRows.{from-join-row}
-use Rattle.rows.proofs.Bounds.{small-more, rooted-small, pushed-small, lockings-limit, branches-limit, codes-limit}
+use Rattle.rows.proofs.Bounds.{bounded-more, rooted-bounded, pushed-bounded, lockings-limit, branches-limit, codes-limit}
 use Rattle.rows.proofs.Steps.{pushed-same, cross-step}
 use Rattle.cells.specs.Cells.{cell}
 use Rattle.cells.specs.Memory.{Blank, Charges, Charging}
 use Rattle.table.specs.Table.{start, Pushable, Pushed, pushedFrom, rootedFrom, aloneFrom, crossFrom}
 use Rattle.table.specs.Spread.{Crossable, Crossed}
-use Rattle.table.proofs.Places.{gap, own-inside, At, to-next, to-first, lockings-here, branches-here, codes-here}
-use Rattle.table.proofs.Pushing.{small-locked, small-diversity, small-cost}
+use Rattle.table.proofs.Places.{gap, own-inside, AtRecord, to-next, to-first, lockings-here, branches-here, codes-here}
+use Rattle.table.proofs.Pushing.{bounded-locked, bounded-diversity, bounded-cost}
 use Rattle.cells.proofs.ByPrice.{join-row, join-same}
 use Rattle.rows.specs.Bounds.{Bounded, lockings, branches, codes}
 
@@ -37,7 +37,7 @@ module _ {o : List ℕ} {r to w : ℕ} {l₀ : List ℕ} (s : Crossable o r to w
   abbrev f : ℕ
   f = first o r
 
-  abbrev a : At o r w l₀ n f
+  abbrev a : AtRecord o r w l₀ n f
   a = record { base = s.base; positive = s.positive; most = s.most; next-is = refl; first-is = refl }
 
   members : 0 < f
@@ -51,8 +51,8 @@ module _ {o : List ℕ} {r to w : ℕ} {l₀ : List ℕ} (s : Crossable o r to w
       omega (arith, e, codes-here a)
 
   -- the members, pushed over the rest
-  pub ready-members : Pushable o f (start w r + w) to w l₀
-  ready-members =
+  pub pushable-members : Pushable o f (start w r + w) to w l₀
+  pushable-members =
       let g = gap w r f ((to-first a).later members) in
       record {
         base = s.base;
@@ -61,11 +61,11 @@ module _ {o : List ℕ} {r to w : ℕ} {l₀ : List ℕ} (s : Crossable o r to w
         to-before = λ p. omega (arith, s.to-before);
         to-above = s.to-above;
         apart = inl (omega (arith, s.to-before));
-        room = record {
+        sums-fit = record {
           most-locked = lockings o (tree o n);
           most-diversity = branches o (tree o n);
           most-code = codes (weight o) (tree o n);
-          small = λ b h. rw (s.rest-row b (omega (arith, s.base.wide))) (rooted-small o (weight o) (tree o n) b);
+          bounded = λ b h. rw (s.rest-row b (omega (arith, s.base.wide))) (rooted-bounded o (weight o) (tree o n) b);
           locked-fits = omega (arith, lockings-here a, lockings-limit o formed r s.most);
           diversity-fits = omega (arith, branches-here a, branches-limit o formed r s.most);
           code-fits = omega (arith, codes-group, codes-limit o formed r s.most);
@@ -95,12 +95,12 @@ module _ {o : List ℕ} {r to w : ℕ} {l₀ : List ℕ} (s : Crossable o r to w
       blank = none₁;
       none-row = none₁;
       fits = λ i h.
-          let small = pushed-small o (weight o) (tree o f) _ _ _ i (λ b k. rooted-small o (weight o) (tree o n) b) i (omega arith) in
+          let small = pushed-bounded o (weight o) (tree o f) _ _ _ i (λ b k. rooted-bounded o (weight o) (tree o n) b) i (omega arith) in
           rw (pushed₁ i (omega arith))
           (record {
-            locked-fits = omega (arith, small-locked small, lockings-here a, lockings-limit o formed r s.most);
-            diversity-fits = omega (arith, small-diversity small, branches-here a, branches-limit o formed r s.most);
-            cost-fits = omega (arith, small-cost small, s.base.narrow);
+            locked-fits = omega (arith, bounded-locked small, lockings-here a, lockings-limit o formed r s.most);
+            diversity-fits = omega (arith, bounded-diversity small, branches-here a, branches-limit o formed r s.most);
+            cost-fits = omega (arith, bounded-cost small, s.base.narrow);
           });
     }
 
@@ -115,22 +115,22 @@ module _ {o : List ℕ} {r to w : ℕ} {l₀ : List ℕ} (s : Crossable o r to w
     }
 
   -- the rest, pushed over the clade
-  alone-small : (b : ℕ)
+  alone-bounded : (b : ℕ)
       → From (Bounded (lockings o (tree o f)) (branch o r + branches o (tree o f)) (codes (weight o) (tree o f))) b (aloneFrom o r f b)
   unfolding aloneRow
-  alone-small b =
+  alone-bounded b =
       from-same (λ v (q, small, e). rw e (record { locked-most = omega arith; diversity-most = omega arith; code-most = omega arith }))
-      (from-join-row (headingRooted o (weight o) r) _ b (rooted-small o (weight o) (tree o f) (b - price o r)))
+      (from-join-row (headingRooted o (weight o) r) _ b (rooted-bounded o (weight o) (tree o f) (b - price o r)))
 
   -- so is the crossing row
-  pub cross-small : (b : ℕ) → From (Bounded (lockings o (tree o r)) (branches o (tree o r)) (codes (weight o) (tree o r))) b (crossFrom o r f n b)
-  cross-small b =
+  pub cross-bounded : (b : ℕ) → From (Bounded (lockings o (tree o r)) (branches o (tree o r)) (codes (weight o) (tree o r))) b (crossFrom o r f n b)
+  cross-bounded b =
       rw (rw s.group at (cross-step o formed.linked (weight o) r s.positive s.most b))
-      (small-more _ _ _ (omega (arith, lockings-here a)) (omega (arith, branches-here a)) (omega (arith, codes-group))
-      (pushed-small o (weight o) (tree o n) _ _ _ b (λ i k. alone-small i) b (omega arith)))
+      (bounded-more _ _ _ (omega (arith, lockings-here a)) (omega (arith, branches-here a)) (omega (arith, codes-group))
+      (pushed-bounded o (weight o) (tree o n) _ _ _ b (λ i k. alone-bounded i) b (omega arith)))
 
-  pub ready-rest : Pushable o n (start w r) to w l₀
-  ready-rest =
+  pub pushable-rest : Pushable o n (start w r) to w l₀
+  pushable-rest =
       let g = gap w r n ((to-next a).later s.more) in
       record {
         base = s.base;
@@ -139,11 +139,11 @@ module _ {o : List ℕ} {r to w : ℕ} {l₀ : List ℕ} (s : Crossable o r to w
         to-before = λ p. omega (arith, s.to-before);
         to-above = s.to-above;
         apart = inl s.to-before;
-        room = record {
+        sums-fit = record {
           most-locked = lockings o (tree o f);
           most-diversity = branch o r + branches o (tree o f);
           most-code = codes (weight o) (tree o f);
-          small = λ b h. rw (s.alone-row b (omega (arith, s.base.wide))) (alone-small b);
+          bounded = λ b h. rw (s.alone-row b (omega (arith, s.base.wide))) (alone-bounded b);
           locked-fits = omega (arith, lockings-here a, lockings-limit o formed r s.most);
           diversity-fits = omega (arith, branches-here a, branches-limit o formed r s.most);
           code-fits = omega (arith, codes-group, codes-limit o formed r s.most);

@@ -59,17 +59,17 @@ module _ {o : List ℕ} {w : ℕ} {l : List ℕ} (base : Base o w l) where
   }
 
 -- at record r, whose members begin at f and the rest of whose chain at n
-pub record At (o : List ℕ) (r w : ℕ) (l : List ℕ) (n f : ℕ) : Type 0 where
+pub record AtRecord (o : List ℕ) (r w : ℕ) (l : List ℕ) (n f : ℕ) : Type 0 where
   pub base : Base o w l
   pub positive : 0 < r
   pub most : r ≤ size o
   pub next-is : n ≡ next o r
   pub first-is : f ≡ first o r
 
-pub at-links : {o : List ℕ} {r w : ℕ} {l : List ℕ} {n f : ℕ} → Base o w l → r ≤ size o → r ≢ 0 → n ≡ next o r → f ≡ first o r → At o r w l n f
+pub at-links : {o : List ℕ} {r w : ℕ} {l : List ℕ} {n f : ℕ} → Base o w l → r ≤ size o → r ≢ 0 → n ≡ next o r → f ≡ first o r → AtRecord o r w l n f
 at-links base u some e h = record { base = base; positive = omega arith; most = u; next-is = e; first-is = h }
 
-module _ {o : List ℕ} {r w : ℕ} {l : List ℕ} {n f : ℕ} (a : At o r w l n f) where
+module _ {o : List ℕ} {r w : ℕ} {l : List ℕ} {n f : ℕ} (a : AtRecord o r w l n f) where
   pub to-next : Later o r n
   to-next = rw a.next-is (a.base.formed.linked.next-later r a.positive a.most)
 

@@ -18,16 +18,16 @@ use Rattle.laws.specs.Numbers.{weight}
 use Rattle.laws.proofs.Forest.{tree-zero, tree-step, sum-most}
 use Rattle.laws.proofs.Order.{value-path, better-none}
 use Rattle.rows.specs.Rows.{betterRow, joinRow, taxonRooted, taxonUnrooted, headingRooted, cladeRow, rootedRow, aloneRow, acrossRow, acrossUnder}
-use Rattle.rows.proofs.Bounds.{rooted-small, lockings-limit, branches-limit, codes-limit}
+use Rattle.rows.proofs.Bounds.{rooted-bounded, lockings-limit, branches-limit, codes-limit}
 use Rattle.rows.proofs.Joins.{join-none, join-at}
 use Rattle.rows.proofs.Steps.{pushed-zero, pushed-step, rooted-step, under-step, cross-under, cross-step}
 use Rattle.cells.specs.Cells.{cell}
 use Rattle.cells.specs.Memory.{rowAt, Charges, chargeOver, Charging}
 use Rattle.table.specs.Table.{taxonWorth, start, Base, pushedFrom, rootedFrom, acrossFrom, aloneFrom, crossFrom}
 use Rattle.table.specs.Spread.{Running, recordsIn, Spreadable, Spread, TaxonSpreadable, TaxonSpread, Crossable, Crossed, Meets, Met}
-use Rattle.table.proofs.Places.{gap, base-kept, blank-none, own-inside, own-above, At, to-next, to-first, lockings-here, branches-here, prices-here, codes-here}
-use Rattle.table.proofs.Pushing.{either, small-locked, small-diversity, small-cost}
-use Rattle.table.proofs.Crossing.{cross-small}
+use Rattle.table.proofs.Places.{gap, base-kept, blank-none, own-inside, own-above, AtRecord, to-next, to-first, lockings-here, branches-here, prices-here, codes-here}
+use Rattle.table.proofs.Pushing.{either, bounded-locked, bounded-diversity, bounded-cost}
+use Rattle.table.proofs.Crossing.{cross-bounded}
 use Rattle.table.proofs.Spreading.{least-kept, shuffle}
 use Rattle.cells.proofs.ByPrice.{join-row, join-same}
 use Rattle.rows.specs.Bounds.{lockings, branches, codes}
@@ -68,7 +68,7 @@ running-spread {o} {r} {above} {to} {w} {l} s h len = record {
 }
 
 -- ---- spreading at record r
-module _ {o : List ℕ} {r above to w : ℕ} {l₀ : List ℕ} (s : Spreadable o r above to w l₀) {n f : ℕ} (a : At o r w l₀ n f) where
+module _ {o : List ℕ} {r above to w : ℕ} {l₀ : List ℕ} (s : Spreadable o r above to w l₀) {n f : ℕ} (a : AtRecord o r w l₀ n f) where
   records-here : recordsIn (tree o r) ≡ 1 + (recordsIn (tree o f) + recordsIn (tree o n))
   records-here = rw (a.next-is, a.first-is) (ap recordsIn (tree-step o a.base.formed.linked r a.positive s.most))
 
@@ -117,7 +117,7 @@ module _ {o : List ℕ} {r above to w : ℕ} {l₀ : List ℕ} (s : Spreadable o
               most-locked = lockings o (tree o n);
               most-diversity = branches o (tree o n);
               most-code = codes (weight o) (tree o n);
-              small = λ b h. rw (rest-row b h) (rooted-small o (weight o) (tree o n) b);
+              bounded = λ b h. rw (rest-row b h) (rooted-bounded o (weight o) (tree o n) b);
               locked-fits = omega (arith, lockings-here a, lockings-limit o a.base.formed r s.most);
               diversity-fits = omega (arith, branches-here a, branches-limit o a.base.formed r s.most);
               code-fits = omega (arith, weigh, codes-here a, codes-limit o a.base.formed r s.most);
@@ -203,12 +203,12 @@ module _ {o : List ℕ} {r above to w : ℕ} {l₀ : List ℕ} (s : Spreadable o
           blank = blank-none base₂ 0;
           none-row = blank-none base₂ 0;
           fits = λ i h.
-              let small = rooted-small o (weight o) (tree o f) i in
+              let small = rooted-bounded o (weight o) (tree o f) i in
               rw (members i (omega arith))
               (record {
-                locked-fits = omega (arith, small-locked small, lockings-here a, lockings-limit o a.base.formed r s.most);
-                diversity-fits = omega (arith, small-diversity small, branches-here a, branches-limit o a.base.formed r s.most);
-                cost-fits = omega (arith, small-cost small, base₂.narrow);
+                locked-fits = omega (arith, bounded-locked small, lockings-here a, lockings-limit o a.base.formed r s.most);
+                diversity-fits = omega (arith, bounded-diversity small, branches-here a, branches-limit o a.base.formed r s.most);
+                cost-fits = omega (arith, bounded-cost small, base₂.narrow);
               });
         }
 
@@ -328,12 +328,12 @@ module _ {o : List ℕ} {r above to w : ℕ} {l₀ : List ℕ} (s : Spreadable o
                   to-above = s.to-above;
                   to-inside = omega (arith, s.to-before a.positive, own-inside a.base a.most);
                   fits = λ i h.
-                      let small = cross-small crossable i in
+                      let small = cross-bounded crossable i in
                       rw (h₄.row i (omega arith))
                       (record {
-                        locked-fits = omega (arith, small-locked small, lockings-limit o a.base.formed r s.most);
-                        diversity-fits = omega (arith, small-diversity small, branches-limit o a.base.formed r s.most);
-                        cost-fits = omega (arith, small-cost small, a.base.narrow);
+                        locked-fits = omega (arith, bounded-locked small, lockings-limit o a.base.formed r s.most);
+                        diversity-fits = omega (arith, bounded-diversity small, branches-limit o a.base.formed r s.most);
+                        cost-fits = omega (arith, bounded-cost small, a.base.narrow);
                       });
                 };
                 to-before = s.to-before a.positive;

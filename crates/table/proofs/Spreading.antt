@@ -22,7 +22,7 @@ use Rattle.cells.specs.Memory.{rowAt, Written, joinFrom, BetteringBy, Bettering,
 use Rattle.table.specs.Table.{taxonWorth, TerminalFilled, Finished, TaxonJoins, TaxonRow, Base}
 use Rattle.table.specs.Spread.{Running, Bettered, Pairable, TaxonSpreadable, TaxonSpread, Tops, BySingle, ByPairs, ByRow}
 use Rattle.table.proofs.Places.{base-kept, blank-none, idle-nothing, front-inside}
-use Rattle.table.proofs.Pushing.{small-locked, small-diversity, small-cost, small-code}
+use Rattle.table.proofs.Pushing.{bounded-locked, bounded-diversity, bounded-cost, bounded-code}
 use Rattle.cells.proofs.ByPrice.{le-or-lt, join-below, join-same, join-row}
 use Rattle.table.proofs.Terminal.{taxon, terminal-from, charged-taxon, charged-there}
 use Rattle.rows.specs.Bounds.{Bounded}
@@ -148,13 +148,13 @@ module _ {o : List ℕ} {r rest above to w : ℕ} {l : List ℕ} (s : TaxonSprea
             cost-fits = omega (arith, base.narrow);
           });
       join-fits = λ b q h.
-          let small = pairs.small (b - cost) (omega arith) in
+          let small = pairs.bounded (b - cost) (omega arith) in
           rw (own-is b q h, charged-taxon o r above, alone (b - cost) (omega arith))
           (record {
-            locked-fits = omega (arith, small-locked small, pairs.locked-fits);
-            diversity-fits = omega (arith, small-diversity small, pairs.diversity-fits);
-            cost-fits = omega (arith, small-cost small, base.narrow);
-            code-fits = omega (arith, small-code small, pairs.code-fits);
+            locked-fits = omega (arith, bounded-locked small, pairs.locked-fits);
+            diversity-fits = omega (arith, bounded-diversity small, pairs.diversity-fits);
+            cost-fits = omega (arith, bounded-cost small, base.narrow);
+            code-fits = omega (arith, bounded-code small, pairs.code-fits);
           });
     }
 
@@ -200,13 +200,13 @@ module _ {o : List ℕ} {r rest above to w : ℕ} {l : List ℕ} (s : TaxonSprea
     fits = λ i h.
         let zero : From (Bounded pairs.most-locked pairs.most-diversity pairs.most-code) i (some nothingWorth) =
         this {v = nothingWorth} (record { locked-most = omega arith; diversity-most = omega arith; code-most = omega arith }) (omega arith) in
-        let small = from-better zero (pairs.small i (omega arith)) in
+        let small = from-better zero (pairs.bounded i (omega arith)) in
         rw (base.nothing-row i (omega arith))
         (record {
-          locked-fits = omega (arith, small-locked small, pairs.locked-fits);
-          diversity-fits = omega (arith, small-diversity small, pairs.diversity-fits);
-          cost-fits = omega (arith, small-cost small, base.narrow);
-          code-fits = omega (arith, small-code small, pairs.code-fits);
+          locked-fits = omega (arith, bounded-locked small, pairs.locked-fits);
+          diversity-fits = omega (arith, bounded-diversity small, pairs.diversity-fits);
+          cost-fits = omega (arith, bounded-cost small, base.narrow);
+          code-fits = omega (arith, bounded-code small, pairs.code-fits);
         });
   }
 
@@ -231,7 +231,7 @@ module _ {o : List ℕ} {r rest above to w : ℕ} {l : List ℕ} (s : TaxonSprea
         most-locked = pairs.most-locked;
         most-diversity = pairs.most-diversity;
         most-code = pairs.most-code;
-        small = λ b h. rw (rest-same b h) (pairs.small b h);
+        bounded = λ b h. rw (rest-same b h) (pairs.bounded b h);
         locked-fits = pairs.locked-fits;
         diversity-fits = pairs.diversity-fits;
         code-fits = pairs.code-fits;

@@ -37,19 +37,19 @@ module _ {o : List ℕ} {w : ℕ} {l₀ : List ℕ} (s : Fillable o w l₀) wher
     base₂ = record { formed = s.formed; wide = s.wide; narrow = s.narrow; long = omega (arith, table-inside); none-row = none₂; nothing-row = nothing₂ }
 
     -- rooted
-    pub ready-root : Pushable o 1 w (2 * w) w l₂
-    ready-root = record {
+    pub pushable-root : Pushable o 1 w (2 * w) w l₂
+    pushable-root = record {
       base = base₂;
       most = s.formed.linked.filled;
       after-before = λ p. omega arith;
       to-before = λ p. omega arith;
       to-above = omega arith;
       apart = inr (omega arith);
-      room = record {
+      sums-fit = record {
         most-locked = 0;
         most-diversity = 0;
         most-code = 0;
-        small = λ b h.
+        bounded = λ b h.
             rw (nothing₂ b (omega (arith, s.wide)))
             (this {v = nothingWorth} (record { locked-most = omega arith; diversity-most = omega arith; code-most = omega arith }) (omega arith));
         locked-fits = omega (arith, lockings-limit o s.formed 1 s.formed.linked.filled);

@@ -1,11 +1,11 @@
 -- The unrooted way: what spreading asks, the running optimum that it betters, and what it leaves.
-use Rattle.std.specs.Prelude.{ℕ, ◌+◌, ◌*◌, ◌-◌, ◌^◌, ◌<◌, ◌≤◌, ◌≡◌, ◌⊎◌, false, List, length}
+use Rattle.std.specs.Prelude.{ℕ, ◌+◌, ◌*◌, ◌-◌, ◌<◌, ◌≤◌, ◌≡◌, ◌⊎◌, false, List, length}
 use Rattle.outline.specs.Outline.{size, next, first, branch, price, isTaxon}
 use Rattle.laws.specs.Candidate.{nothingWorth, heading, some, betterOf, oneAt, From}
 use Rattle.laws.specs.Forest.{Forest, sumIn, tree}
 use Rattle.laws.specs.Numbers.{weight}
 use Rattle.rows.specs.Rows.{Row, joinRow}
-use Rattle.cells.specs.Cells.{unit, lift, cell, Chargeable}
+use Rattle.cells.specs.Cells.{unit, lift, wordLimit, cell, Chargeable}
 use Rattle.cells.specs.Memory.{rowAt}
 use Rattle.table.specs.Table.{IsTaxon, mostAbove, taxonWorth, taxonOver, start, Base, rootedFrom, acrossFrom, aloneFrom, crossFrom}
 use Rattle.laws.specs.Measures.{lock}
@@ -57,10 +57,10 @@ pub record Pairable (o : List ℕ) (r rest w : ℕ) (l : List ℕ) : Type 0 wher
   pub most-locked : ℕ
   pub most-diversity : ℕ
   pub most-code : ℕ
-  pub small : (b : ℕ) → b < w → From (Bounded most-locked most-diversity most-code) b (cell l (rest + b))
+  pub bounded : (b : ℕ) → b < w → From (Bounded most-locked most-diversity most-code) b (cell l (rest + b))
   pub locked-fits : lock o r + most-locked < unit - 1
   pub diversity-fits : branch o r + most-diversity < lift
-  pub code-fits : weight o r + most-code < 2 ^ 64
+  pub code-fits : weight o r + most-code < wordLimit
 
 -- what spreading taxon r to the row at `to` asks
 pub record TaxonSpreadable (o : List ℕ) (r rest above to w : ℕ) (l : List ℕ) : Type 0 where

@@ -1,5 +1,5 @@
 -- The table: where its rows stand, what is asked before a row is pushed or spread, and what is there afterwards.
-use Rattle.std.specs.Prelude.{if◌then◌else◌, ℕ, ◌+◌, ◌*◌, ◌-◌, ◌^◌, ◌<◌, ◌≤◌, ◌≡◌, ◌⊎◌, Bool, true, false, List, eqb, ltb, length}
+use Rattle.std.specs.Prelude.{if◌then◌else◌, ℕ, ◌+◌, ◌*◌, ◌-◌, ◌<◌, ◌≤◌, ◌≡◌, ◌⊎◌, Bool, true, false, List, eqb, ltb, length}
 use Rattle.outline.specs.Outline.{size, branch, price, isTaxon}
 use Rattle.outline.specs.WellFormed.{WellFormed}
 use Rattle.laws.specs.Candidate.{Value, nothingWorth, Cand, none, some, betterOf}
@@ -7,7 +7,7 @@ use Rattle.laws.specs.Forest.{Forest, empty, node, tree}
 use Rattle.laws.specs.Numbers.{weight}
 use Rattle.rows.specs.Rows.{Row, pushed, rootedRow, acrossUnder, aloneRow, crossRow, topRow}
 use Rattle.rows.specs.Worth.{rootedWorth}
-use Rattle.cells.specs.Cells.{unit, lift, cell, Joinable}
+use Rattle.cells.specs.Cells.{unit, lift, wordLimit, cell, Joinable}
 use Rattle.cells.specs.Memory.{rowAt, Written, Beside, joinOver}
 use Rattle.outline.specs.Rules.{mostRecords, mostPrice}
 use Rattle.laws.specs.Measures.{lock, rootedIn}
@@ -119,10 +119,10 @@ pub record SumsFit (o : List ℕ) (w : ℕ) (F : Forest) (x : Row) : Type 0 wher
   pub most-locked : ℕ
   pub most-diversity : ℕ
   pub most-code : ℕ
-  pub small : BoundedRow most-locked most-diversity most-code (w - 1) x
+  pub bounded : BoundedRow most-locked most-diversity most-code (w - 1) x
   pub locked-fits : most-locked + lockings o F < unit - 1
   pub diversity-fits : most-diversity + branches o F < lift
-  pub code-fits : most-code + codes (weight o) F < 2 ^ 64
+  pub code-fits : most-code + codes (weight o) F < wordLimit
 
 -- what pushing the row at `after` through the chain of record r to the row at `to` asks: both stand before the rows of r
 pub record Pushable (o : List ℕ) (r after to w : ℕ) (l : List ℕ) : Type 0 where
@@ -132,7 +132,7 @@ pub record Pushable (o : List ℕ) (r after to w : ℕ) (l : List ℕ) : Type 0 
   pub to-before : 0 < r → to + w ≤ start w r
   pub to-above : 2 * w ≤ to
   pub apart : (to + w ≤ after) ⊎ (after + w ≤ to)
-  pub room : SumsFit o w (tree o r) (rowAt l after)
+  pub sums-fit : SumsFit o w (tree o r) (rowAt l after)
 
 -- what it leaves: the pushed row at `to`, or at 0 if there is no record; else the rows before r's are as they were
 pub record Pushed (o : List ℕ) (r after to w : ℕ) (l m : List ℕ) (at : ℕ) : Type 0 where

@@ -1,8 +1,8 @@
 // What a taxon alone is worth, and rows with it.
-ghost use Rattle.std.specs.Prelude.{◌≡◌, ◌<◌, ◌^◌};
+ghost use Rattle.std.specs.Prelude.{◌≡◌, ◌<◌};
 ghost use Rattle.laws.specs.Candidate.{some};
 ghost use Rattle.laws.specs.Numbers.{weight};
-ghost use Rattle.cells.specs.Cells.{lift, unit, view};
+ghost use Rattle.cells.specs.Cells.{lift, unit, view, wordLimit};
 ghost use Rattle.cells.specs.Memory.{Joins, Joining};
 ghost use Rattle.table.specs.Table.{IsTaxon, taxonWorth, TerminalFills, TerminalFilled, Finished, TaxonJoins, TaxonRow};
 ghost use Rattle.outline.specs.Outline.{IsRecord};
@@ -14,7 +14,7 @@ use outline::fields::{branch_of, is_locked, is_taxon, price_of};
 // 2 to the number of taxa after record r.
 fn weight_of(o: &[u8], r: usize) -> u64
     requires fact { IsRecord o.now r }
-    requires r_bound { weight o.now r < 2 ^ 64 }
+    requires r_bound { weight o.now r < wordLimit }
     ensures { result ≡ weight o.now r }
 {
     let mut w: u64 = 1;

@@ -1,9 +1,9 @@
 -- `table::spread::cross` meets its contract.
-use Rattle.table.proofs.Crossing.{ready-members, charges-cross, crossed-members, ready-rest, crossed-rest}
+use Rattle.table.proofs.Crossing.{pushable-members, charges-cross, crossed-members, pushable-rest, crossed-rest}
 use Rattle.table.proofs.spread.cross.Goals as goal
 
 pub push-requires : goal.push-requires
-push-requires c = rw c.first_of.ensures (ready-members c.requires)
+push-requires c = rw c.first_of.ensures (pushable-members c.requires)
 
 pub charge_row-requires : goal.charge_row-requires
 charge_row-requires c =
@@ -16,7 +16,7 @@ returns-then-by_members c =
     (rw (c.branch_of-branch.ensures, c.price_of-price.ensures) at c.charge_row.ensures)
 
 pub push-requires-2 : goal.push-requires-2
-push-requires-2 c = rw c.next_of.ensures (ready-rest c.requires)
+push-requires-2 c = rw c.next_of.ensures (pushable-rest c.requires)
 
 pub returns : goal.returns
 returns c = crossed-rest c.requires (rw c.next_of.ensures at c.push-2.ensures)

@@ -1,10 +1,10 @@
 -- `table::top::fill` meets its contract.
-use Rattle.table.proofs.Whole.{ready-root, filled-rooted, spreadable-root, filled-unrooted}
+use Rattle.table.proofs.Whole.{pushable-root, filled-rooted, spreadable-root, filled-unrooted}
 use Rattle.table.proofs.top.fill.Goals as goal
 
 pub push-requires : goal.push-requires
 push-requires c =
-    ready-root c.requires (simp c.none.ensures at c.fill_row.ensures) c.fill_row.auto.work (simp c.some.ensures at c.fill_row-2.ensures)
+    pushable-root c.requires (simp c.none.ensures at c.fill_row.ensures) c.fill_row.auto.work (simp c.some.ensures at c.fill_row-2.ensures)
     c.fill_row-2.auto.work
 
 pub returns-then-way-eq0 : goal.returns-then-way-eq0

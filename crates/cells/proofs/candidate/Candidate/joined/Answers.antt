@@ -1,8 +1,8 @@
 -- `cells::candidate::Candidate::joined` meets its contract.
-use Rattle.std.proofs.Common.{◌+◌, ◌^◌, ◌<◌, ◌≤◌, ◌≢◌, arith}
+use Rattle.std.proofs.Common.{◌+◌, ◌<◌, ◌≤◌, ◌≢◌, arith}
 use Rattle.laws.specs.Candidate.{none}
 use Rattle.cells.specs.declared.candidate.Candidate.{Candidate}
-use Rattle.cells.specs.Cells.{unit, view, Joinable}
+use Rattle.cells.specs.Cells.{unit, wordLimit, view, Joinable}
 use Rattle.cells.proofs.Words.{seen-none, join-second-none, join-bounds, join-both}
 use Rattle.cells.proofs.candidate.Candidate.joined.Goals as goal
 
@@ -13,7 +13,7 @@ there c n z = n (seen-none _ _ z)
 
 -- the sums fit
 fits : (c d : Candidate) → Joinable (view c) (view d) × (view c ≢ none) → d.score ≢ 0
-    → (c.score + d.score < 2 ^ 64) × (unit ≤ c.score + d.score) × (c.set + d.set < 2 ^ 64)
+    → (c.score + d.score < wordLimit) × (unit ≤ c.score + d.score) × (c.set + d.set < wordLimit)
 unfolding view
 fits c d j k = join-bounds _ _ _ _ (there c j.1) k j.0
 
