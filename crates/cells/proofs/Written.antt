@@ -11,7 +11,7 @@ use borrow.Author.Tests.{le-leb}
 use Rattle.laws.specs.Candidate.{Cand, joinOf}
 use Rattle.rows.specs.Rows.{Row}
 use Rattle.cells.specs.Cells.{seen, cell}
-use Rattle.cells.specs.Memory.{Put, Written, joinFrom}
+use Rattle.cells.specs.Memory.{Apart, Put, Written, joinFrom}
 
 -- two words put at a cell of a list
 pub put-words : (l : List ℕ) (k s m : ℕ) → 2 * k + 1 < length l → Put k (seen s m) l (set (set l (2 * k) s) (2 * k + 1) m)
@@ -79,7 +79,7 @@ module _ {to lo w : ℕ} {x : Row} {l m : List ℕ} {i j : ℕ} (h : Filling to 
       (λ q. ⊎_elim (λ (p : a ≤ to). absurd (omega arith)) (λ (p : to + w ≤ a). ⊎_elim (λ (e : i ≡ j). omega arith) (λ (_, most). omega arith) h.inside) d)
 
   -- a row that stands apart is still as it was
-  pub apart-same : {a : ℕ} → (to + w ≤ a) ⊎ (a + w ≤ to) → (k : ℕ) → k < w → cell m (a + k) ≡ cell l (a + k)
+  pub apart-same : {a : ℕ} → Apart to a w → (k : ℕ) → k < w → cell m (a + k) ≡ cell l (a + k)
   apart-same {a} d k lt =
       h.written.same (a + k)
       (λ q. ⊎_elim (λ (e : i ≡ j). omega arith) (λ (_, most). ⊎_elim (λ (p : to + w ≤ a). omega arith) (λ (p : a + w ≤ to). absurd (omega arith)) d) h.inside)

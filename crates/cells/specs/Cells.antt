@@ -21,6 +21,7 @@ unfoldable pub seen : ℕ → ℕ → Cand
 seen score set =
     if eqb score 0 then none else some (record { locked = (score - 1) / unit / lift; diversity = (score - 1) / unit % lift; cost = unit - 1 - (score - 1) % unit; code = set })
 
+-- the candidate of two words
 unfoldable pub view : Candidate → Cand
 view c = seen c.score c.set
 

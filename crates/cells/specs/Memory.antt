@@ -8,6 +8,10 @@ use Rattle.cells.specs.Cells.{cell, Joinable, Chargeable}
 abbrev pub rowAt : List ℕ → ℕ → Row
 rowAt l at b = cell l (at + b)
 
+-- two rows of w columns that begin at these cells have no cell in common
+abbrev pub Apart : ℕ → ℕ → ℕ → Type 0
+Apart x y w = (x + w ≤ y) ⊎ (y + w ≤ x)
+
 -- m is l with c put at cell k
 pub record Put (k : ℕ) (c : Cand) (l m : List ℕ) : Type 0 where
   pub here : cell m k ≡ c
@@ -87,7 +91,7 @@ pub record Charges (l : List ℕ) (to branch price b w : ℕ) : Type 0 where
   pub inside : 2 * (to + w) ≤ length l
   pub above : w ≤ to
   pub over-inside : 2 * (b + w) ≤ length l
-  pub over-apart : (to + w ≤ b) ⊎ (b + w ≤ to)
+  pub over-apart : Apart to b w
   pub blank : Blank l b w
   pub none-row : Blank l 0 w
   pub fits : (i : ℕ) → i + price < w → Chargeable (cell l (to + i)) branch price
@@ -95,10 +99,10 @@ pub record Charges (l : List ℕ) (to branch price b w : ℕ) : Type 0 where
 -- two rows of w columns beside the one at `to`, apart from it: the first may be that of nothing chosen, the second that of no set
 pub record Beside (l : List ℕ) (to x y w : ℕ) : Type 0 where
   pub first-inside : 2 * (x + w) ≤ length l
-  pub first-apart : (to + w ≤ x) ⊎ (x + w ≤ to)
+  pub first-apart : Apart to x w
   pub first-idle : Idle l x w
   pub second-inside : 2 * (y + w) ≤ length l
-  pub second-apart : (to + w ≤ y) ⊎ (y + w ≤ to)
+  pub second-apart : Apart to y w
   pub second-blank : Blank l y w
 
 -- what reading column b of two rows asks

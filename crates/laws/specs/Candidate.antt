@@ -40,11 +40,13 @@ pub data Cand : Type 0 where
   none : Cand
   some : Value → Cand
 
+-- the better of two; none only if both are
 unfoldable pub betterOf : Cand → Cand → Cand
 betterOf none c = c
 betterOf (some v) none = some v
 betterOf (some v) (some w) = if beats w v then some w else some v
 
+-- two sets with no taxon in common, taken together; none if either is none
 unfoldable pub joinOf : Cand → Cand → Cand
 joinOf none c = none
 joinOf (some v) none = none

@@ -4,11 +4,14 @@ use Rattle.lists.specs.Lists.{one, total}
 use Rattle.outline.specs.Outline.{records, locked}
 use Rattle.diversity.specs.Diversity.{chosen}
 
+-- how many taxa are locked
 unfoldable pub locks : List ℕ → ℕ
 locks o = total (λ r. one (locked o r)) (records o)
 
+-- how many of them are in the set s
 unfoldable pub locksHeld : List ℕ → List ℕ → ℕ
 locksHeld o s = total (λ r. if chosen s r then one (locked o r) else 0) (records o)
 
+-- the marks of the locked taxa
 unfoldable pub lockedSet : List ℕ → List ℕ
 lockedSet o = map (λ r. one (locked o r)) (records o)

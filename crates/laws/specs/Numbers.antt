@@ -11,6 +11,7 @@ use Rattle.outline.specs.Rules.{taxaIn}
 unfoldable pub weight : List ℕ → ℕ → ℕ
 weight o r = 2 ^ taxaIn o (from (r + 1) (size o - r))
 
+-- the number of the set s: the weights of its taxa, added
 unfoldable pub code : List ℕ → List ℕ → ℕ
 code o s = total (λ r. if chosen s r then weight o r else 0) (records o)
 

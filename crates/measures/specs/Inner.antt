@@ -8,12 +8,13 @@ use Rattle.measures.specs.declared.figures.Measure.{Measure}
 use Rattle.outline.specs.Rules.{mostRecords}
 use Rattle.laws.specs.Measures.{chosenIn, costIn, crossing}
 
--- two measures whose sums keep to 32 bits, and their sum
+-- two measures whose sums keep to 32 bits
 pub record Addable (v w : Measure) : Type 0 where
   pub taxa-fit : v.taxa + w.taxa < 2 ^ 32
   pub cost-fits : v.cost + w.cost < 2 ^ 32
   pub diversity-fits : v.diversity + w.diversity < 2 ^ 32
 
+-- m is their sum
 pub record Added (v w m : Measure) : Type 0 where
   pub taxa-is : m.taxa ≡ v.taxa + w.taxa
   pub cost-is : m.cost ≡ v.cost + w.cost
@@ -38,17 +39,21 @@ pub record InForest (o s : List ℕ) (all : ℕ) (F : Forest) (m : Measure) : Ty
 abbrev pub cladeOf : List ℕ → ℕ → Forest
 cladeOf o r = node r (tree o (first o r)) empty
 
+-- record r of a measurable set, and what its members come to
 pub record InClade (o : List ℕ) (r : ℕ) (s : List ℕ) (all : ℕ) (members : Measure) : Type 0 where
   pub base : Measurable o s
   pub is-record : IsRecord o r
   pub below : InForest o s all (tree o (first o r)) members
 
+-- m has the measures of what is chosen at or below record r
 abbrev pub CladeMeasured : List ℕ → ℕ → List ℕ → ℕ → Measure → Type 0
 CladeMeasured o r s all m = InForest o s all (cladeOf o r) m
 
+-- record r of a measurable set, or 0
 pub record InChain (o : List ℕ) (r : ℕ) (s : List ℕ) : Type 0 where
   pub base : Measurable o s
   pub most : r ≤ size o
 
+-- m has the measures of what is chosen in the chain that begins at record r
 abbrev pub ChainMeasured : List ℕ → ℕ → List ℕ → ℕ → Measure → Type 0
 ChainMeasured o r s all m = InForest o s all (tree o r) m

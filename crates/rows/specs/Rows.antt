@@ -11,6 +11,7 @@ use Rattle.laws.specs.Candidate.{Value, nothingWorth, heading, Cand, none, some,
 abbrev pub Row : Type 0
 Row = ℕ → Cand
 
+-- the better of two rows, column by column
 abbrev pub betterRow : Row → Row → Row
 betterRow x y b = betterOf (x b) (y b)
 

@@ -66,6 +66,7 @@ pub record AtRecord (o : List ℕ) (r w : ℕ) (l : List ℕ) (n f : ℕ) : Type
   pub next-is : n ≡ next o r
   pub first-is : f ≡ first o r
 
+-- record r, where its links are read
 pub at-links : {o : List ℕ} {r w : ℕ} {l : List ℕ} {n f : ℕ} → Base o w l → r ≤ size o → r ≢ 0 → n ≡ next o r → f ≡ first o r → AtRecord o r w l n f
 at-links base u some e h = record { base = base; positive = omega arith; most = u; next-is = e; first-is = h }
 

@@ -18,7 +18,7 @@ use Rattle.laws.proofs.Best.{from-better}
 use Rattle.rows.specs.Rows.{Row, betterRow, joinRow}
 use Rattle.rows.proofs.Joins.{join-none, join-at, join-nothing}
 use Rattle.cells.specs.Cells.{cell, lockedOf, diversityOf, costOf, codeOf}
-use Rattle.cells.specs.Memory.{rowAt, Written, joinFrom, BetteringBy, Bettering, ChargingFrom, Joins, Joining}
+use Rattle.cells.specs.Memory.{rowAt, Apart, Written, joinFrom, BetteringBy, Bettering, ChargingFrom, Joins, Joining}
 use Rattle.table.specs.Table.{taxonWorth, TerminalFilled, Finished, TaxonJoins, TaxonRow, Base}
 use Rattle.table.specs.Spread.{Running, Bettered, Pairable, TaxonSpreadable, TaxonSpread, Tops, BySingle, ByPairs, ByRow}
 use Rattle.table.proofs.Places.{base-kept, blank-none, idle-nothing, front-inside}
@@ -180,7 +180,7 @@ module _ {o : List ℕ} {r rest above to w : ℕ} {l : List ℕ} (s : TaxonSprea
   }
 
   -- ---- the taxon's rooted row
-  rest-apart : (to + w ≤ rest) ⊎ (rest + w ≤ to)
+  rest-apart : Apart to rest w
   rest-apart = ⊎_elim (λ (e : rest ≡ 0). inr (omega (arith, s.to-above, base.wide))) inl s.to-before
 
   joins-rooted : TaxonJoins o r w rest to w l

@@ -8,7 +8,7 @@ use Rattle.laws.specs.Numbers.{weight}
 use Rattle.rows.specs.Rows.{Row, pushed, rootedRow, acrossUnder, aloneRow, crossRow, topRow}
 use Rattle.rows.specs.Worth.{rootedWorth}
 use Rattle.cells.specs.Cells.{unit, lift, wordLimit, cell, Joinable}
-use Rattle.cells.specs.Memory.{rowAt, Written, Beside, joinOver}
+use Rattle.cells.specs.Memory.{rowAt, Apart, Written, Beside, joinOver}
 use Rattle.outline.specs.Rules.{mostRecords, mostPrice}
 use Rattle.laws.specs.Measures.{lock, rootedIn}
 use Rattle.rows.specs.Bounds.{BoundedRow, lockings, branches, codes}
@@ -131,7 +131,7 @@ pub record Pushable (o : List ℕ) (r after to w : ℕ) (l : List ℕ) : Type 0 
   pub after-before : 0 < r → after + w ≤ start w r
   pub to-before : 0 < r → to + w ≤ start w r
   pub to-above : 2 * w ≤ to
-  pub apart : (to + w ≤ after) ⊎ (after + w ≤ to)
+  pub apart : Apart to after w
   pub sums-fit : SumsFit o w (tree o r) (rowAt l after)
 
 -- what it leaves: the pushed row at `to`, or at 0 if there is no record; else the rows before r's are as they were
