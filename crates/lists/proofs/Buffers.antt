@@ -1,12 +1,12 @@
 -- Buffers that are written over number by number, from the left or from the right.
 use Prim.Native.Nat.{ℕ, zero, suc, ◌+◌, ◌-◌, ◌≤◌, ◌<◌}
 use mathlib.Core.Path.{◌≡◌, refl, sym, ap, ◌∙◌}
-use mathlib.Core.List.{List, [], ◌∷◌, ◌++◌, append-nil}
+use mathlib.Core.List.{List, [], ◌∷◌, ◌++◌}
 use native.Mathlib.Omega.{arith}
 use native.Mathlib.Numerals.{add-one}
-use lib.ListN.{length, get_or, take, drop, set, length-append, length-drop, replicate, length-replicate, take-append-drop, drop_of_length-le}
+use lib.ListN.{length, get_or, take, drop, set, length-append, length-drop, take-append-drop}
 use lib.ListN.{get_or-append}
-use lib.Seq.{length-take-le, take-length, take_at, drop_at}
+use lib.Seq.{take-length, take_at, drop_at}
 use Rattle.lists.specs.Lists.{over}
 
 -- one number more from the left, and from the right
@@ -60,9 +60,6 @@ module _ {text buffer now : List ℕ} {i : ℕ} (h : Rising text buffer now i) w
   unfolding over
   rising-ends l = let e : i ≡ length text = omega (arith, h.most) in h.whole ∙ rw (e, take-length)
 
-  pub rising-long : length now ≡ length buffer
-  rising-long = rw h.whole (simp (length-append, length-drop, length-take-le i text h.most) (omega (arith, h.most, h.fits)))
-
 -- the same from the right: the numbers from i on stand, and the rest is as it was
 pub record Falling (text buffer now : List ℕ) (i : ℕ) : Type 0 where
   pub most : i ≤ length text
@@ -95,13 +92,3 @@ module _ {text buffer now : List ℕ} {i : ℕ} (h : Falling text buffer now i) 
 
 pub falling-ends : {text buffer now : List ℕ} → Falling text buffer now 0 → now ≡ over text buffer
 falling-ends h = h.whole
-
-pub falling-long : {text buffer now : List ℕ} {i : ℕ} → Falling text buffer now i → length now ≡ length buffer
-falling-long {text} {buffer} {now} {i} h =
-    let inside : i ≤ length buffer = omega (arith, h.most, h.fits) in
-    rw h.whole (simp (length-append, length-drop, length-take-le i buffer inside, over-long text buffer h.fits) (omega arith))
-
--- a text as long as the buffer is all that is left
-pub over-all : (n : ℕ) (buffer : List ℕ) → length buffer ≡ n → over (replicate n 0) buffer ≡ replicate n 0
-unfolding over
-over-all n buffer h = rw (length-replicate, drop_of_length-le buffer {i = n} (omega arith), append-nil)

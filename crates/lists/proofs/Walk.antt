@@ -56,9 +56,6 @@ module _ {most : ℕ} (f : ℕ → ℕ) (n : ℕ) where
   summing-ends {sum} {r} s h = let none : total f (rest r n) ≡ 0 = unfold total in rw (rest-none r n h) in omega arith
 
 module _ (p : ℕ → Bool) (n : ℕ) where
-  pub seeking-starts : Seeking p n 1
-  seeking-starts = record { low = omega arith; whole = rw rest-all }
-
   pub seeking-goes : {r : ℕ} → Seeking p n r → r ≤ n → p r ≡ false → Seeking p n (r + 1)
   unfolding lowest
   seeking-goes {r} s h e =

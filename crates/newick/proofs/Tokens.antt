@@ -110,9 +110,6 @@ pub record Counting (text : List ℕ) (at i c v : ℕ) : Type 0 where
   pub small : v < 10 ^ c
   pub whole : tokensOf (drop at text) ≡ tokensFrom c v (drop i text)
 
-pub counting-starts : {text : List ℕ} {at : ℕ} → at ≤ length text → Counting text at at 0 0
-counting-starts h = record { high = h; place = omega arith; few = omega arith; small = omega arith; whole = refl }
-
 pub small-value : (c v : ℕ) → c < 9 → v < 10 ^ c → v < 100000000
 small-value c v h l = let p : 10 ^ c ≤ 10 ^ 8 = pow-le-pow_right {n = 10} (omega arith) {i = c} {j = 8} (omega arith) in omega arith
 
@@ -209,9 +206,6 @@ pub record Skipping (text : List ℕ) (at i : ℕ) : Type 0 where
   pub high : i ≤ length text
   pub whole : tokensOf (drop at text) ≡ tokensOf (drop i text)
 
-pub skipping-starts : {text : List ℕ} {at : ℕ} → at ≤ length text → Skipping text at at
-skipping-starts h = record { low = omega arith; high = h; whole = refl }
-
 module _ {text : List ℕ} {at i : ℕ} (k : Skipping text at i) where
   pub skipping-ends : length text ≤ i → Met text at Token.End i
   skipping-ends h =
@@ -232,9 +226,6 @@ module _ {text : List ℕ} {at i : ℕ} (k : Skipping text at i) where
           whole = k.whole ∙ (tokens-at text i _ Sign.Blank h e b).1;
         }
 
-    pub skipping-digit : {s : Sign} → s ≡ signOf (get_or text i 0) → s ≡ Sign.Digit → AtDigit text i
-    skipping-digit e b = record { inside = h; digit = ap digitSign (sym e ∙ b) }
-
     pub skipping-meets : {s : Sign} → s ≡ signOf (get_or text i 0) → OneOf alone (tag_of the_type s) → {t : Token} → t ≡ tokenOf s
         → Met text at t (i + 1)
     skipping-meets {s} e o {t} f =
@@ -248,13 +239,3 @@ module _ {text : List ℕ} {at i : ℕ} (k : Skipping text at i) where
           moved = omega (arith, k.low);
           within = omega arith;
         }
-
-  pub skipping-number : {t : Token} {n : ℕ} → Met text i t n → Met text at t n
-  skipping-number m =
-      record {
-        later = m.later;
-        shows = k.whole ∙ m.shows;
-        follows = m.follows;
-        moved = omega (arith, k.low, m.moved);
-        within = m.within;
-      }

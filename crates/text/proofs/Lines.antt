@@ -24,9 +24,6 @@ pub record Lining (at : ℕ) (ns before : List ℕ) (i to : ℕ) (after : List �
   pub high : i ≤ length ns
   pub left : Left at (others ns) before to (others (drop i ns)) after
 
-pub lining-starts : {at : ℕ} {ns before : List ℕ} → LongEnough at (others ns) before → Lining at ns before 0 at before
-lining-starts h = record { high = omega arith; left = left-starts h }
-
 module _ {at i to : ℕ} {ns before after : List ℕ} (l : Lining at ns before i to after) where
   module _ (more : i < length ns) where
     blank-left : Left at (others ns) before to ((blank ∷ []) ++ (decimal (get_or ns i 0) ++ others (drop (i + 1) ns))) after
