@@ -1,4 +1,4 @@
-// The class of a byte: what the reader decides by.
+// The classes of bytes, by which the reader decides.
 ghost use Rattle.std.specs.Prelude.{◌≡◌};
 ghost use Rattle.newick.specs.Parsing.{signOf};
 
@@ -14,6 +14,8 @@ pub enum Sign {
     Other,
 }
 
+// The class of a byte.
+#[tactic(auto, unfolding(crate::specs::Parsing::signOf))]
 pub fn sign_of(byte: u8) -> Sign
     ensures { result ≡ signOf byte }
 {
