@@ -15,6 +15,10 @@ two-at xs i h =
     let f : suc (i + 1) ≡ i + 2 = omega arith in
     drop-cons xs i 0 (omega arith) ∙ rw (e, drop-cons xs (i + 1) 0 h, f)
 
+-- what follows a piece that stands at a place
+pub after-list : (xs : List ℕ) (i n : ℕ) (s rest : List ℕ) → length s ≡ n → drop i xs ≡ s ++ rest → drop (i + n) xs ≡ rest
+after-list xs i n s rest e h = sym (drop-drop n i xs) ∙ rw h (drop_at s rest n e)
+
 -- one number
 pub over-one : (at b : ℕ) (buffer : List ℕ) → at < length buffer → set buffer at b ≡ overAt at (b ∷ []) buffer
 unfolding over overAt

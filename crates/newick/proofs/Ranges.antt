@@ -4,7 +4,7 @@ use mathlib.Core.Path.{◌≡◌, refl}
 use mathlib.Core.List.{List, [], ◌∷◌, ◌++◌}
 use native.Mathlib.Omega.{arith}
 use lib.ListN.{length}
-use Rattle.newick.specs.Grammar.{Kind, part, Tree, Word, opening, closing, comma, colon, semicolon, number}
+use Rattle.newick.specs.Grammar.{Kind, part, Tree, Word, opening, closing, comma, colon, semicolon, number, mostNumber}
 use Rattle.newick.specs.Grammar.{Length, no-length, a-length, Spelled, a-taxon, a-group, the-last, one-more, Spells}
 use Rattle.newick.specs.Grammar.{Mark, opening-bracket, closing-bracket, a-comma, a-colon, a-semicolon, Digits, no-digits, a-digit}
 use Rattle.newick.specs.Grammar.{Written, nothing, after-blank, after-mark, after-number}
@@ -30,7 +30,7 @@ over closing = 0
 over comma = 0
 over colon = 0
 over semicolon = 0
-over (number v) = v - 999999999
+over (number v) = v - mostNumber
 
 excess : List Word → ℕ
 excess [] = 0
@@ -55,10 +55,10 @@ written-fits nothing = refl
 written-fits (after-blank b r) = written-fits r
 written-fits (after-mark m r) = omega (arith, mark-fits m, written-fits r)
 written-fits (after-number {v} {ds} d l u n r) =
-    let most : v ≤ 999999999 = digits-most 9 0 d u (omega arith) in
+    let most : v ≤ mostNumber = digits-most 9 0 d u (omega arith) in
     omega (arith, written-fits r)
 
-length-fits : {l : ℕ} {ls : List Word} → Length l ls → excess ls ≡ 0 → l ≤ 999999999
+length-fits : {l : ℕ} {ls : List Word} → Length l ls → excess ls ≡ 0 → l ≤ mostNumber
 unfolding excess
 length-fits no-length e = omega arith
 length-fits a-length e = omega arith

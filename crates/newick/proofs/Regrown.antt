@@ -7,32 +7,34 @@ use native.Mathlib.Omega.{arith}
 use lib.ListN.{drop}
 use borrow.Author.Tests.{eq-eqb, ne_eqb, le-ltb}
 use Rattle.lists.specs.Lists.{from, anywhere}
+use Rattle.lists.proofs.Pieces.{after-list}
 use Rattle.lists.proofs.Walk.{from-both, nowhere-both}
-use Rattle.outline.specs.Outline.{size, records, next, first, branch, price, plateField, plate, isTaxon, locked, recordBytes}
-use Rattle.newick.specs.Grammar.{Kind, part, chain, Tree, taxon, group}
+use Rattle.outline.specs.Rules.{mostRecords}
+use Rattle.outline.specs.Outline.{size, records, next, first, branch, price, plateField, plate, lockBit, isTaxon, locked, recordBytes}
+use Rattle.newick.specs.Grammar.{Kind, part, chain, Tree, taxon, group, mostNumber}
 use Rattle.newick.specs.Layout.{count, plates, rows, layout}
 use Rattle.newick.specs.Inner.{platesOf, InRange, taxon-in, group-in, last-in, more-in}
 use Rattle.newick.specs.Trees.{unwritable}
-use Rattle.records.proofs.Records.{record-length, after-list, fields-back}
+use Rattle.records.proofs.Records.{record-length, fields-back}
 use Rattle.newick.proofs.Layouts.{count-some, rows-length}
 use Rattle.newick.proofs.Traced.{Traced, taxon-at, group-at, last-at, more-at, traced-plates}
-use Rattle.outline.specs.Rules.{mostRecords}
 
 -- ---- no row 13
-writable-taxon : (o : List ℕ) (r : ℕ) → isTaxon o r ≡ true → plateField o r ≤ 999999999 → unwritable o r ≡ false
+writable-taxon : (o : List ℕ) (r : ℕ) → isTaxon o r ≡ true → plateField o r ≤ mostNumber → unwritable o r ≡ false
 unfolding unwritable locked
 writable-taxon o r t h =
-    rw (t, ne_eqb (plateField o r / 2147483648 % 2) 1 (λ e. omega arith), le-ltb 999999999 (plate o r) (omega arith))
+    rw (t, ne_eqb (plateField o r / lockBit % 2) 1 (λ e. omega arith), le-ltb mostNumber (plate o r) (omega arith))
 
 writable-group : (o : List ℕ) (r : ℕ) → isTaxon o r ≡ false → price o r ≡ 0 → plateField o r ≡ 0 → unwritable o r ≡ false
 unfolding unwritable locked
-writable-group o r t c h = rw (t, le-ltb 0 (price o r) (omega arith), le-ltb 999999999 (plate o r) (omega arith))
+writable-group o r t c h = rw (t, le-ltb 0 (price o r) (omega arith), le-ltb mostNumber (plate o r) (omega arith))
 
 -- what follows a part is its next; a list's last member has none
 abbrev NextIs : (κ : Kind) → List ℕ → ℕ → ℕ → Type 0
 NextIs part o k n = next o k ≡ n
 NextIs chain o k n = n ≡ 0
 
+-- the last record of a list has no next; that of a part may have one
 abbrev Ends : Kind → ℕ → Type 0
 Ends part n = n ≡ n
 Ends chain n = n ≡ 0

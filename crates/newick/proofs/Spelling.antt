@@ -96,6 +96,7 @@ reads (suc n) chain ts = chain-reads (readIn n chain) (reads n chain) (reads n p
 abbrev Stops : List Token → Type 0
 Stops rest = (f : ℕ → Tree part) → withLength f rest ≡ got (f 0) rest
 
+-- what may follow a part, or a list with its bracket
 abbrev Follows : Kind → List Token → Type 0
 Follows part rest = Stops rest
 Follows chain rest = Unit

@@ -51,7 +51,7 @@ tokens-at text i s t h e b =
     let inside = tokensFrom 1 (10 * 0 + (get_or text i 0 - 48)) (drop (i + 1) text) in
     (inside, tokens-go text i 0 0 h ∙ ap (λ u. tokensBy u 0 0 inside (tokensOf (drop (i + 1) text))) (sym e ∙ b))
 
--- a digit goes on with the Token.Number
+-- a digit goes on with the number
 pub by-digit : (s : Sign) (c v : ℕ) (inside later : List Token) → digitSign s ≡ true → tokensBy s c v inside later ≡ inside
 by-digit Sign.Open c v inside later e = absurd (false≢true e)
 by-digit Sign.Close c v inside later e = absurd (false≢true e)
@@ -62,7 +62,7 @@ by-digit Sign.Digit c v inside later e = refl
 by-digit Sign.Blank c v inside later e = absurd (false≢true e)
 by-digit Sign.Other c v inside later e = absurd (false≢true e)
 
--- any Token.Other sign ends it
+-- any other sign ends it
 pub by-other : (s : Sign) (c v : ℕ) (inside inside' later : List Token) → digitSign s ≡ false
     → tokensBy s c v inside later ≡ ended c v (tokensBy s 0 0 inside' later)
 by-other Sign.Open c v inside inside' later e = refl
@@ -83,12 +83,12 @@ module _ (text : List ℕ) (i c v : ℕ) (h : i < length text) where
   other-ends e =
       tokens-go text i c v h ∙ by-other (signOf (get_or text i 0)) c v _ _ _ e ∙ ap (λ ts. ended c v ts) (sym (tokens-go text i 0 0 h))
 
--- a Token.Number of 1 to 9 digits
+-- a number of 1 to 9 digits
 pub number-ended : (c v : ℕ) (ts : List Token) → 1 ≤ c → c ≤ 9 → ended c v ts ≡ Token.Number v ∷ ts
 number-ended zero v ts l u = absurd (omega arith)
 number-ended (suc c) v ts l u = rw (lt-ltb c 9 (omega arith))
 
--- a Token.Number of more digits is none
+-- a number of more digits is none
 pub too-long : (c v : ℕ) (s : List ℕ) → 10 ≤ c → (later : List Token) × (tokensFrom c v s ≡ Token.Other ∷ later)
 unfolding tokensFrom
 too-long zero v [] h = absurd (omega arith)
@@ -102,7 +102,7 @@ too-long (suc c) v (b ∷ s) h = go (digitSign (signOf b)) refl (too-long (suc (
     go true e ih = (ih.0, by-digit (signOf b) (suc c) v _ _ e ∙ ih.1)
     go false e ih = (tokensBy (signOf b) 0 0 [] (tokensOf s), by-other (signOf b) (suc c) v _ [] _ e ∙ rw (le-ltb c 9 (omega arith)))
 
--- i digits of a Token.Number are read: c of them, and they make v
+-- a number is read up to byte i: c digits, which make v
 pub record Counting (text : List ℕ) (at i c v : ℕ) : Type 0 where
   pub high : i ≤ length text
   pub place : i ≡ at + c

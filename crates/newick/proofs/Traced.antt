@@ -12,10 +12,10 @@ use Rattle.outline.specs.WellFormed.{Linked}
 use Rattle.outline.specs.Outline.{size, next, first, branch, plate, isTaxon, IsRecord}
 use Rattle.diversity.specs.Diversity.{chain as chainFrom, clade}
 use Rattle.laws.proofs.Chains.{chain-none}
-use Rattle.newick.specs.Grammar.{Kind, part, chain, Tree, taxon, group, last, more}
+use Rattle.newick.specs.Grammar.{Kind, part, chain, Tree, taxon, group, last, more, mostNumber}
 use Rattle.newick.specs.Inner.{platesIn, InRange, taxon-in, group-in, last-in, more-in}
 use Rattle.newick.specs.Layout.{count, plates}
-use Rattle.newick.specs.Trees.{partBy, chainIn, chainOf, part-of, treeOf}
+use Rattle.newick.specs.Trees.{partBy, chainIn, chainOf, partOf, treeOf}
 
 -- a taxon, a group with its members, the last of a chain, a member with the rest of its chain: the tree, its first record, and all
 -- its records in text order
@@ -87,7 +87,7 @@ module _ (o : List ℕ) (linked : Linked o) where
   unfolding chainOf
   links-traced r l u = chain-traced (size o) r l u (omega arith)
 
-  clade-traced : (r : ℕ) → 1 ≤ r → r ≤ size o → Traced o part (part-of o r) r (clade o r)
+  clade-traced : (r : ℕ) → 1 ≤ r → r ≤ size o → Traced o part (partOf o r) r (clade o r)
   unfolding chainOf clade
   clade-traced r l u =
       let f = linked.first-later r l u in
@@ -99,10 +99,10 @@ module _ (o : List ℕ) (linked : Linked o) where
 
   -- a chain is a part and the rest
   pub chain-tree : (r : ℕ) → 1 ≤ r → r ≤ size o
-      → chainOf o r ≡ (if eqb (next o r) 0 then last (part-of o r) else more (part-of o r) (chainOf o (next o r)))
+      → chainOf o r ≡ (if eqb (next o r) 0 then last (partOf o r) else more (partOf o r) (chainOf o (next o r)))
   chain-tree r l u = go (eqb (next o r) 0) refl
     where
-      go : (b : Bool) → eqb (next o r) 0 ≡ b → chainOf o r ≡ (if b then last (part-of o r) else more (part-of o r) (chainOf o (next o r)))
+      go : (b : Bool) → eqb (next o r) 0 ≡ b → chainOf o r ≡ (if b then last (partOf o r) else more (partOf o r) (chainOf o (next o r)))
       go true e = (traced-one (links-traced r l u) (last-at (eqb-true (next o r) 0 e) (clade-traced r l u))).0
       go false e =
           let some = eqb-false (next o r) 0 e in
@@ -142,7 +142,7 @@ module _ {o : List ℕ} where
   traced-plates (more-at {rs = rs} {qs = qs} e x y) = rw (plates-both o rs qs, traced-plates x, traced-plates y)
 
   -- its numbers are in range where the records' are
-  pub traced-range : ((r : ℕ) → IsRecord o r → (plate o r ≤ 999999999) × (branch o r ≤ 999999999))
+  pub traced-range : ((r : ℕ) → IsRecord o r → (plate o r ≤ mostNumber) × (branch o r ≤ mostNumber))
       → {κ : Kind} {t : Tree κ} {r : ℕ} {rs : List ℕ} → Traced o κ t r rs → InRange κ t
   traced-range small {r = r} (taxon-at i e) = let (plate-is, length-is) = small r i in taxon-in plate-is length-is
   traced-range small {r = r} (group-at i e x) = group-in (traced-range small x) (small r i).1

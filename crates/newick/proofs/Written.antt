@@ -30,6 +30,7 @@ tokenFor colon = Token.Colon
 tokenFor semicolon = Token.Semicolon
 tokenFor (number v) = Token.Number v
 
+-- the tokens of words
 abbrev pub tokensFor : List Word → List Token
 tokensFor ws = map tokenFor ws
 

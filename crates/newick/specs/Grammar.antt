@@ -61,13 +61,20 @@ pub data NoDigit : List ℕ → Type 0 where
   at-end : NoDigit []
   before : {b : ℕ} {s : List ℕ} → (Digit b → ⊥) → NoDigit (b ∷ s)
 
+-- a number has at most so many digits, and is at most the greatest of so many
+abbrev pub mostDigits : ℕ
+mostDigits = 9
+
+abbrev pub mostNumber : ℕ
+mostNumber = 999999999
+
 -- words written as a text: blanks may stand anywhere but inside a number, and a number has 1 to 9 digits, which are all that
 -- stand side by side
 pub data Written : List Word → List ℕ → Type 0 where
   nothing : Written [] []
   after-blank : {b : ℕ} {ws : List Word} {s : List ℕ} → Blank b → Written ws s → Written ws (b ∷ s)
   after-mark : {w : Word} {b : ℕ} {ws : List Word} {s : List ℕ} → Mark w b → Written ws s → Written (w ∷ ws) (b ∷ s)
-  after-number : {v : ℕ} {ds : List ℕ} {ws : List Word} {s : List ℕ} → Digits 0 ds v → 1 ≤ length ds → length ds ≤ 9 → NoDigit s
+  after-number : {v : ℕ} {ds : List ℕ} {ws : List Word} {s : List ℕ} → Digits 0 ds v → 1 ≤ length ds → length ds ≤ mostDigits → NoDigit s
       → Written ws s → Written (number v ∷ ws) (ds ++ s)
 
 -- a text has at most so many bytes

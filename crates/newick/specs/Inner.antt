@@ -1,7 +1,7 @@
 -- What the code and the arguments on texts speak of: tokens, the plates of an outline, and trees whose numbers can be spelled.
 use Rattle.std.specs.Prelude.{if◌then◌else◌, ℕ, ◌+◌, ◌≤◌, ◌<◌, ◌≡◌, true, List, [], ◌∷◌, length, get_or, drop}
 use Rattle.outline.specs.Outline.{records, plate, isTaxon}
-use Rattle.newick.specs.Grammar.{Kind, part, chain, Tree, taxon, group, last, more}
+use Rattle.newick.specs.Grammar.{Kind, part, chain, Tree, taxon, group, last, more, mostNumber}
 use Rattle.newick.specs.Parsing.{tokensOf, isDigit}
 use Rattle.newick.specs.declared.sign.Sign.{Sign}
 use Rattle.newick.specs.declared.token.Token.{Token}
@@ -73,7 +73,7 @@ platesOf o = platesIn o (records o)
 
 -- every plate and length of a tree has at most nine digits
 pub data InRange : (κ : Kind) → Tree κ → Type 0 where
-  taxon-in : {p l : ℕ} → p ≤ 999999999 → l ≤ 999999999 → InRange part (taxon p l)
-  group-in : {ms : Tree chain} {l : ℕ} → InRange chain ms → l ≤ 999999999 → InRange part (group ms l)
+  taxon-in : {p l : ℕ} → p ≤ mostNumber → l ≤ mostNumber → InRange part (taxon p l)
+  group-in : {ms : Tree chain} {l : ℕ} → InRange chain ms → l ≤ mostNumber → InRange part (group ms l)
   last-in : {t : Tree part} → InRange part t → InRange chain (last t)
   more-in : {t : Tree part} {ms : Tree chain} → InRange part t → InRange chain ms → InRange chain (more t ms)

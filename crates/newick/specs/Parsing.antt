@@ -1,6 +1,6 @@
 -- Reading a text: its tokens, and the tree that they spell.
 use Rattle.std.specs.Prelude.{if◌then◌else◌, ℕ, zero, suc, ◌+◌, ◌*◌, ◌-◌, Bool, true, false, ◌||◌, ◌&&◌, List, [], ◌∷◌, length, eqb, ltb, leb}
-use Rattle.newick.specs.Grammar.{Kind, part, chain, Tree, taxon, group, last, more, mostBytes}
+use Rattle.newick.specs.Grammar.{Kind, part, chain, Tree, taxon, group, last, more, mostDigits, mostBytes}
 use Rattle.newick.specs.declared.sign.Sign.{Sign}
 use Rattle.newick.specs.declared.token.Token.{Token}
 
@@ -26,13 +26,14 @@ digitSign Sign.Digit = true
 digitSign Sign.Blank = false
 digitSign Sign.Other = false
 
+-- a byte is a digit
 abbrev pub isDigit : ℕ → Bool
 isDigit b = digitSign (signOf b)
 
--- a number of so many digits that ends here, if there is one; of more than 9 it is none
+-- a number of so many digits that ends here, if there is one; of more digits than a number may have it is none
 abbrev pub ended : ℕ → ℕ → List Token → List Token
 ended zero v ts = ts
-ended (suc c) v ts = (if ltb c 9 then Token.Number v else Token.Other) ∷ ts
+ended (suc c) v ts = (if ltb c mostDigits then Token.Number v else Token.Other) ∷ ts
 
 -- what a byte adds, after c digits of a number v: inside has the tokens if the number goes on, later those of the bytes after it
 abbrev pub tokensBy : Sign → ℕ → ℕ → List Token → List Token → List Token
@@ -50,6 +51,7 @@ unfoldable pub tokensFrom : ℕ → ℕ → List ℕ → List Token
 tokensFrom c v [] = ended c v []
 tokensFrom c v (b ∷ s) = tokensBy (signOf b) c v (tokensFrom (suc c) (10 * v + (b - 48)) s) (tokensFrom 0 0 s)
 
+-- the tokens of a whole text
 abbrev pub tokensOf : List ℕ → List Token
 tokensOf s = tokensFrom 0 0 s
 
@@ -82,6 +84,7 @@ withLength f (Token.Number l ∷ ts) = got (f 0) (Token.Number l ∷ ts)
 withLength f (Token.Other ∷ ts) = got (f 0) (Token.Other ∷ ts)
 withLength f (Token.End ∷ ts) = got (f 0) (Token.End ∷ ts)
 
+-- a list that was read as a group, with its length
 abbrev pub grouped : Outcome chain → Outcome part
 grouped failed = failed
 grouped (got ms ts) = withLength (group ms) ts
@@ -98,6 +101,7 @@ partFrom f (Token.Number p ∷ ts) = withLength (taxon p) ts
 partFrom f (Token.Other ∷ ts) = failed
 partFrom f (Token.End ∷ ts) = failed
 
+-- a member before the rest of its list
 abbrev pub joined : Tree part → Outcome chain → Outcome chain
 joined t failed = failed
 joined t (got ms ts) = got (more t ms) ts
@@ -114,6 +118,7 @@ chainThen f t (Token.Number l ∷ ts) = failed
 chainThen f t (Token.Other ∷ ts) = failed
 chainThen f t (Token.End ∷ ts) = failed
 
+-- a list, from its first member on
 abbrev pub chainFrom : (List Token → Outcome chain) → Outcome part → Outcome chain
 chainFrom f failed = failed
 chainFrom f (got t ts) = chainThen f t ts
@@ -124,11 +129,12 @@ readIn zero κ ts = failed
 readIn (suc depth) part ts = partFrom (readIn depth chain) ts
 readIn (suc depth) chain ts = chainFrom (readIn depth chain) (readIn depth part ts)
 
--- the semicolon, and nothing after it
+-- there are no more tokens
 abbrev pub nothing : List Token → Bool
 nothing [] = true
 nothing (t ∷ ts) = false
 
+-- the semicolon, and nothing after it
 unfoldable pub ends : List Token → Bool
 ends [] = false
 ends (Token.Open ∷ ts) = false
@@ -145,6 +151,7 @@ pub data Parsed : Type 0 where
   unread : Parsed
   tree : Tree part → Parsed
 
+-- a tree that was read, if its text ends there
 abbrev pub closed : Outcome part → Parsed
 closed failed = unread
 closed (got t ts) = if ends ts then tree t else unread
@@ -153,5 +160,6 @@ closed (got t ts) = if ends ts then tree t else unread
 unfoldable pub grown : List ℕ → Parsed
 grown text = closed (readIn (2 * length text + 1) part (tokensOf text))
 
+-- the tree of a text that is not too long
 unfoldable pub parsed : List ℕ → Parsed
 parsed text = if ltb mostBytes (length text) then unread else grown text

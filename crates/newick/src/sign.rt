@@ -2,6 +2,7 @@
 ghost use Rattle.std.specs.Prelude.{◌≡◌};
 ghost use Rattle.newick.specs.Parsing.{signOf};
 
+// What a byte is in a text.
 #[derive(Drop)]
 pub enum Sign {
     Open,
@@ -26,7 +27,7 @@ pub fn sign_of(byte: u8) -> Sign
         b':' => Sign::Colon,
         b';' => Sign::Semicolon,
         b'0'..=b'9' => Sign::Digit,
-        b' ' | 9 | 10 | 13 => Sign::Blank,
+        b' ' | b'\t' | b'\n' | b'\r' => Sign::Blank,
         _ => Sign::Other,
     }
 }

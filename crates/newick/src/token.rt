@@ -5,8 +5,10 @@ ghost use Rattle.newick.specs.Inner.{Met, AtDigit, tokenOf};
 
 use super::sign::{Sign, sign_of};
 
+// A number has at most so many digits.
 const MOST_DIGITS: usize = 9;
 
+// A word of a text, a byte that no tree can contain, or the end.
 #[derive(Drop)]
 pub enum Token {
     Open,
@@ -26,6 +28,7 @@ pub struct Found {
     pub end: usize,
 }
 
+// Whether a byte is a digit.
 fn is_digit(byte: u8) -> bool
     ensures { result ≡ isDigit byte }
 {
@@ -54,7 +57,7 @@ fn number_at(text: &[u8], at: usize) -> Found
                 end: i,
             };
         }
-        value = 10 * value + (byte - 48) as u32;
+        value = 10 * value + (byte - b'0') as u32;
         digits += 1;
         i += 1;
     }

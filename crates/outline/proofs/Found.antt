@@ -13,7 +13,7 @@ use borrow.Author.Tests.{eqb-true, eqb-false, eq-eqb, ne_eqb}
 use Rattle.lists.specs.Lists.{lowest}
 use Rattle.lists.proofs.Bools.{both-true}
 use Rattle.lists.proofs.Walk.{lowest-none, lowest-holds, lowest-le}
-use Rattle.outline.specs.Outline.{short, long, size, records, plate, isTaxon}
+use Rattle.outline.specs.Outline.{short, long, size, records, lockBit, plate, isTaxon}
 use Rattle.outline.specs.Answer.{isAccepted, foundAt, found}
 use Rattle.outline.specs.WellFormed.{WellFormed}
 use Rattle.outline.proofs.WellFormed.{accepted-formed}
@@ -50,7 +50,7 @@ module _ (o : List ℕ) (formed : WellFormed o) (r : ℕ) (l : 1 ≤ r) (u : r �
   part-carries p t e = record {
     whole = part-length;
     taxon = rw (part-short 2 (omega arith)) t;
-    plated = ap (λ k. k % 2147483648) (part-long 12 (omega arith)) ∙ e;
+    plated = ap (λ k. k % lockBit) (part-long 12 (omega arith)) ∙ e;
   }
 
 -- ---- the finder
@@ -124,7 +124,7 @@ module _ (o : List ℕ) (p : ℕ) where
       go false a z e h = absurd (omega arith)
 
   -- a plate's number has 31 bits: for a greater one there is no record, and the part is empty
-  pub found-at-none : 2147483647 < p → foundAt o p ≡ 0
+  pub found-at-none : lockBit ≤ p → foundAt o p ≡ 0
   unfolding foundAt at
   found-at-none h = go (isAccepted o) (eqb at 0) refl
     where
@@ -133,6 +133,6 @@ module _ (o : List ℕ) (p : ℕ) where
       go true false e = let (low, high, taxon, plated) = at-holds (eqb-false at 0 e) in absurd (omega (arith, plated))
       go false z e = refl
 
-  pub found-none : 2147483647 < p → found o p ≡ []
+  pub found-none : lockBit ≤ p → found o p ≡ []
   unfolding found
   found-none h = rw (found-at-none h)

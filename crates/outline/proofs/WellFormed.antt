@@ -11,8 +11,7 @@ use Rattle.lists.proofs.Bools.{both-false, second-false}
 use Rattle.lists.proofs.Walk.{lowest-none, anywhere-none}
 use Rattle.refusals.proofs.Refusals.{both-pass, row-fails, row-at-fails}
 use Rattle.outline.specs.Outline.{size, next, first, plate, isTaxon}
-use Rattle.outline.specs.Answer.{sizeRows}
-use Rattle.outline.specs.Answer.{recordRows, checked, isAccepted}
+use Rattle.outline.specs.Answer.{sizeRows, recordRows, checked, isAccepted}
 use Rattle.outline.specs.WellFormed.{Later, Ranged, WellFormed}
 use Rattle.outline.specs.Rules.{badField, stray, named, badLink, taxa, hasPlate, isDuplicate, mostRecords, mostTaxa}
 

@@ -2,10 +2,11 @@
 use Rattle.std.specs.Prelude.{ℕ, zero, suc, ◌+◌, ◌*◌, ◌-◌, ◌/◌, ◌%◌, ◌≤◌, Bool, ◌&&◌, List, [], ◌∷◌, ◌++◌, length, get_or, eqb}
 use Rattle.lists.specs.Lists.{from}
 
--- the numbers of two and of four bytes at a place, least significant byte first
+-- the number of two bytes at a place, least significant byte first
 unfoldable pub short : List ℕ → ℕ → ℕ
 short o at = get_or o at 0 + 256 * get_or o (at + 1) 0
 
+-- the number of four bytes at a place
 unfoldable pub long : List ℕ → ℕ → ℕ
 long o at = short o at + 65536 * short o (at + 2)
 

@@ -3,16 +3,19 @@ use Rattle.std.specs.Prelude.{if◌then◌else◌, ℕ, ◌+◌, ◌-◌, Bool, 
 use Rattle.lists.specs.Lists.{one, from, anywhere, total}
 use Rattle.outline.specs.Outline.{size, records, next, first, branch, price, plateField, plate, isTaxon}
 
--- at most so many records and taxa; the longest branch, and the highest price
+-- the most records
 abbrev pub mostRecords : ℕ
 mostRecords = 127
 
+-- the most taxa
 abbrev pub mostTaxa : ℕ
 mostTaxa = 64
 
+-- the longest branch
 abbrev pub mostLength : ℕ
 mostLength = 1000000
 
+-- the highest price
 abbrev pub mostPrice : ℕ
 mostPrice = 65535
 
@@ -42,10 +45,11 @@ badLink o r =
     || stray o r (first o r)
     || (if eqb r 1 then not (eqb (next o r) 0) else not (eqb (named o r) 1))
 
--- how many of the records rs are taxa, and how many taxa there are, for refusal 7
+-- how many of the records rs are taxa
 unfoldable pub taxaIn : List ℕ → List ℕ → ℕ
 taxaIn o rs = total (λ r. one (isTaxon o r)) rs
 
+-- how many taxa there are, for refusal 7
 unfoldable pub taxa : List ℕ → ℕ
 taxa o = taxaIn o (records o)
 

@@ -21,6 +21,7 @@ fn long_at(o: &[u8], at: usize) -> u32
     short_at(o, at) as u32 + 65536 * (short_at(o, at + 2) as u32)
 }
 
+// The record of the next member under the same heading, 0 if there is none.
 pub fn next_of(o: &[u8], r: usize) -> usize
     requires { IsRecord o.now r }
     ensures { result ≡ next o.now r }
@@ -28,6 +29,7 @@ pub fn next_of(o: &[u8], r: usize) -> usize
     short_at(o, 16 * (r - 1)) as usize
 }
 
+// The record of the first member, 0 at a taxon.
 pub fn first_of(o: &[u8], r: usize) -> usize
     requires { IsRecord o.now r }
     ensures { result ≡ first o.now r }
@@ -35,6 +37,7 @@ pub fn first_of(o: &[u8], r: usize) -> usize
     short_at(o, 16 * (r - 1) + 2) as usize
 }
 
+// The length of the branch above the record.
 pub fn branch_of(o: &[u8], r: usize) -> u32
     requires { IsRecord o.now r }
     ensures { result ≡ branch o.now r }
@@ -42,6 +45,7 @@ pub fn branch_of(o: &[u8], r: usize) -> u32
     long_at(o, 16 * (r - 1) + 4)
 }
 
+// The price of a taxon's plate or of a group's heading.
 pub fn price_of(o: &[u8], r: usize) -> u32
     requires { IsRecord o.now r }
     ensures { result ≡ price o.now r }
@@ -49,6 +53,7 @@ pub fn price_of(o: &[u8], r: usize) -> u32
     long_at(o, 16 * (r - 1) + 8)
 }
 
+// The plate field, with the lock.
 pub fn plate_field_of(o: &[u8], r: usize) -> u32
     requires { IsRecord o.now r }
     ensures { result ≡ plateField o.now r }
@@ -56,6 +61,7 @@ pub fn plate_field_of(o: &[u8], r: usize) -> u32
     long_at(o, 16 * (r - 1) + 12)
 }
 
+// The plate's number.
 pub fn plate_of(o: &[u8], r: usize) -> u32
     requires { IsRecord o.now r }
     ensures { result ≡ plate o.now r }
@@ -63,6 +69,7 @@ pub fn plate_of(o: &[u8], r: usize) -> u32
     plate_field_of(o, r) % LOCK
 }
 
+// Whether the record is a taxon.
 pub fn is_taxon(o: &[u8], r: usize) -> bool
     requires { IsRecord o.now r }
     ensures { result ≡ isTaxon o.now r }
@@ -70,6 +77,7 @@ pub fn is_taxon(o: &[u8], r: usize) -> bool
     first_of(o, r) == 0
 }
 
+// Whether the record is a locked taxon.
 pub fn is_locked(o: &[u8], r: usize) -> bool
     requires { IsRecord o.now r }
     ensures { result ≡ locked o.now r }

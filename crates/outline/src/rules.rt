@@ -126,6 +126,7 @@ fn is_duplicate(o: &[u8], r: usize) -> bool
     holder_of(o, plate_of(o, r), r - 1) != 0
 }
 
+// Whether record r breaks a rule.
 fn is_broken(o: &[u8], counts: &[u16; NUMBERS], rule: Rule, r: usize) -> bool
     requires fact { IsRecord o.now r }
     requires tally { Tally o.now counts.now }

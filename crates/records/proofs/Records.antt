@@ -53,10 +53,6 @@ module _ (f : ℕ → List ℕ) (sixteen : (r : ℕ) → length (f r) ≡ 16) wh
 
 -- ---- fields from bytes
 module _ (o : List ℕ) where
-  -- what is left after a list that begins it
-  pub after-list : (i n : ℕ) (s rest : List ℕ) → length s ≡ n → drop i o ≡ s ++ rest → drop (i + n) o ≡ rest
-  after-list i n s rest e h = sym (drop-drop n i o) ∙ rw h (drop_at s rest n e)
-
   -- a number of two bytes, inside what is left, and one of four
   short-in : (i j : ℕ) {s : List ℕ} → drop i o ≡ s → short o (i + j) ≡ get_or s j 0 + 256 * get_or s (j + 1) 0
   unfolding short

@@ -1,13 +1,15 @@
 -- Numbers as text, in ASCII, and lines of numbers.
 use Rattle.std.specs.Prelude.{ℕ, zero, suc, ◌+◌, ◌/◌, ◌%◌, cond, List, [], ◌∷◌, ◌++◌, ltb}
 
--- the signs: the digit 0, a blank, a line end
+-- the digit 0
 abbrev pub nought : ℕ
 nought = 48
 
+-- a blank
 abbrev pub blank : ℕ
 blank = 32
 
+-- a line end
 abbrev pub lineEnd : ℕ
 lineEnd = 10
 

@@ -6,6 +6,7 @@ ghost use Rattle.std.specs.Prelude.{◌<◌, [], ◌∷◌, length};
 ghost use Rattle.text.specs.Written.{LongEnough, Written};
 ghost use Rattle.text.specs.Text.{decimal, others, line, labelled};
 
+// One byte.
 pub fn put_byte(buffer: &mut [u8], at: usize, byte: u8) -> usize
     requires { at < length buffer.old }
     ensures { Written at (byte ∷ []) buffer.old buffer.new result }
@@ -14,6 +15,7 @@ pub fn put_byte(buffer: &mut [u8], at: usize, byte: u8) -> usize
     at + 1
 }
 
+// A text as it is.
 pub fn put_text(buffer: &mut [u8], at: usize, text: &[u8]) -> usize
     requires { LongEnough at text.now buffer.old }
     ensures { Written at text.now buffer.old buffer.new result }
@@ -26,6 +28,7 @@ pub fn put_text(buffer: &mut [u8], at: usize, text: &[u8]) -> usize
     at + i
 }
 
+// A number in decimal digits.
 pub fn put_number(buffer: &mut [u8], at: usize, n: u64) -> usize
     requires { LongEnough at (decimal n) buffer.old }
     ensures { Written at (decimal n) buffer.old buffer.new result }
@@ -43,11 +46,11 @@ pub fn put_others(buffer: &mut [u8], at: usize, numbers: &[u64]) -> usize
     let mut to = at;
     let mut i = 0;
     while i < numbers.len() {
-        to = put_byte(buffer, to, 32);
+        to = put_byte(buffer, to, b' ');
         to = put_number(buffer, to, numbers[i]);
         i += 1;
     }
-    put_byte(buffer, to, 10)
+    put_byte(buffer, to, b'\n')
 }
 
 // A line of at least one number.

@@ -1,21 +1,21 @@
 -- `records::put_long` meets its contract: the two halves are written one after the other.
-use Rattle.std.proofs.Common.{ℕ, ◌/◌, ◌%◌, List}
+use Rattle.std.proofs.Common.{ℕ, ◌/◌, ◌%◌, List, ◌++◌, sym, subst}
 use Rattle.outline.specs.Outline.{bytes}
-use Rattle.text.specs.Written.{LongEnough, Written}
-use Rattle.text.proofs.Writing.{Left, left-fits, left-goes, left-last}
-use Rattle.records.proofs.Writing.{halves-left}
+use Rattle.text.specs.Written.{LongEnough}
+use Rattle.text.proofs.Writing.{Left, left-starts, left-fits, left-goes, left-last}
+use Rattle.records.proofs.Records.{bytes-halves}
 use Rattle.records.proofs.put_long.Goals as goal
 
--- the lower half is written
-lower-written : (v : ℕ) {at to : ℕ} {before after : List ℕ} → LongEnough at (bytes 4 v) before → Written at (bytes 2 (v % 65536)) before after to
-    → Left at (bytes 4 v) before to (bytes 2 (v / 65536)) after
-lower-written v h d = left-goes (bytes 2 (v % 65536)) _ (halves-left _ v _ h) d
+-- both halves are left to write
+halves-left : {at : ℕ} (v : ℕ) {buffer : List ℕ} → LongEnough at (bytes 4 v) buffer
+    → Left at (bytes 4 v) buffer at (bytes 2 (v % 65536) ++ bytes 2 (v / 65536)) buffer
+halves-left {at} v {buffer} h = subst (λ s. Left at (bytes 4 v) buffer at s buffer) (sym (bytes-halves v)) (left-starts h)
 
 pub put_short-to-requires : goal.put_short-to-requires
-put_short-to-requires c = left-fits (bytes 2 (c.args.v % 65536)) _ (halves-left c.args.at c.args.v c.args.buffer.now c.requires)
+put_short-to-requires c = left-fits _ _ (halves-left c.args.v c.requires)
 
 pub put_short-requires : goal.put_short-requires
-put_short-requires c = (lower-written c.args.v c.requires c.put_short-to.ensures).fits
+put_short-requires c = (left-goes _ _ (halves-left c.args.v c.requires) c.put_short-to.ensures).fits
 
 pub returns : goal.returns
-returns c = left-last (lower-written c.args.v c.requires c.put_short-to.ensures) c.put_short.ensures
+returns c = left-last (left-goes _ _ (halves-left c.args.v c.requires) c.put_short-to.ensures) c.put_short.ensures

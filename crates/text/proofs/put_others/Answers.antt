@@ -1,3 +1,4 @@
+-- `text::put_others`: each turn goes on with what is left, and a line end ends it.
 use Rattle.text.proofs.Lines.{blank-fits, number-fits, lining-goes, end-fits, lining-ends}
 use Rattle.text.proofs.put_others.Goals as goal
 

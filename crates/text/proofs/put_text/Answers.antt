@@ -1,3 +1,4 @@
+-- `text::put_text`: each turn goes on with what is left, and then nothing is left.
 use Rattle.std.proofs.Common.{arith}
 use Rattle.text.proofs.Writing.{copied-goes, copied-ends}
 use Rattle.text.proofs.put_text.Goals as goal

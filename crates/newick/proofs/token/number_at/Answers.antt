@@ -1,3 +1,4 @@
+-- `newick::token::number_at`: the number is small enough to go on, and each way out meets the token that it answers.
 use Rattle.std.proofs.Common.{arith, sym}
 use Rattle.newick.proofs.Signs.{digit-range}
 use Rattle.newick.proofs.Tokens.{counting-goes, counting-ends, counting-last, counting-fails, small-value}

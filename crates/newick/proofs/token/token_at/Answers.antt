@@ -1,3 +1,4 @@
+-- `newick::token::token_at`: a blank leaves the tokens as they are, and each way out meets the first of them.
 use Rattle.std.proofs.Common.{refl, rules}
 use Rattle.newick.proofs.Tokens.{skipping-goes, skipping-meets, skipping-ends}
 use Rattle.newick.proofs.token.token_at.Goals as goal

@@ -1,3 +1,4 @@
+-- `outline::rules::broken_at`: the first record that breaks the rule is the lowest.
 use Rattle.std.proofs.Common.{sym, ◌∙◌}
 use Rattle.lists.proofs.Walk.{seeking-goes, seeking-finds, seeking-ends}
 use Rattle.outline.proofs.rules.broken_at.Goals as goal

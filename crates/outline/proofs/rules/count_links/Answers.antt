@@ -1,3 +1,4 @@
+-- `outline::rules::count_links`: each turn counts a record's two links, and no count overflows.
 use Rattle.std.proofs.Common.{arith}
 use Rattle.outline.proofs.Counting.{tallying-starts, tallying-goes, tallying-ends, counted-small}
 use Rattle.outline.proofs.rules.count_links.Goals as goal

@@ -1,3 +1,4 @@
+-- `outline::rules::holder_of`: the first record that has the plate is the lowest.
 use Rattle.std.proofs.Common.{sym, ◌∙◌}
 use Rattle.lists.proofs.Walk.{seeking-goes, seeking-finds, seeking-ends}
 use Rattle.outline.proofs.rules.holder_of.Goals as goal

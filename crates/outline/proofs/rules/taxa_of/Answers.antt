@@ -1,3 +1,4 @@
+-- `outline::rules::taxa_of`: a record adds one if it is a taxon.
 use Rattle.std.proofs.Common.{arith}
 use Rattle.lists.proofs.Bools.{byte-one, one-le}
 use Rattle.lists.proofs.Walk.{summing-goes, summing-ends}
