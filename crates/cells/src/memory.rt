@@ -21,8 +21,8 @@ pub fn read(work: &[u64], at: usize) -> Candidate
 
 // Column b of the row that begins at a cell. The row at cell 0 has no set in any column, so it is not read.
 fn column(work: &[u64], row: usize, b: usize) -> Candidate
-    requires b_in_bounds { 2 * (row + b) + 1 < length work.now }
-    requires b_value { row ≡ 0 → cell work.now (row + b) ≡ none }
+    requires inside { 2 * (row + b) + 1 < length work.now }
+    requires blank { row ≡ 0 → cell work.now (row + b) ≡ none }
     ensures { view result ≡ cell work.now (row + b) }
 {
     if row == 0 {

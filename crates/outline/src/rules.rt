@@ -65,7 +65,7 @@ pub fn count_links(o: &[u8]) -> [u16; NUMBERS]
 
 // Whether a link of record r is stray, or it is record 1 and has a next, or it is another and is not named exactly once.
 fn bad_link(o: &[u8], counts: &[u16; NUMBERS], r: usize) -> bool
-    requires fact { IsRecord o.now r }
+    requires is_record { IsRecord o.now r }
     requires tally { Tally o.now counts.now }
     ensures { result ≡ badLink o.now r }
 {
@@ -128,7 +128,7 @@ fn is_duplicate(o: &[u8], r: usize) -> bool
 
 // Whether record r breaks a rule.
 fn is_broken(o: &[u8], counts: &[u16; NUMBERS], rule: Rule, r: usize) -> bool
-    requires fact { IsRecord o.now r }
+    requires is_record { IsRecord o.now r }
     requires tally { Tally o.now counts.now }
     ensures { result ≡ breaks o.now rule r }
 {

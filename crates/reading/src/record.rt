@@ -29,8 +29,8 @@ pub fn draft_record(
     branch: u32,
     plate: u32,
 )
-    requires k_lt_most_records { k < mostRecords }
-    requires draft_len { length draft.old ≡ draftSize }
+    requires few { k < mostRecords }
+    requires draft_long { length draft.old ≡ draftSize }
     ensures { draft.new ≡ drafted pairs.now k next first branch plate draft.old }
 {
     let price = price_for(pairs, first, plate);

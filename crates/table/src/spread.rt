@@ -11,8 +11,9 @@ use outline::fields::{branch_of, first_of, is_locked, next_of, price_of};
 // Betters the running optimum by taxon r alone, below groups that cost `above` together. It has no diversity, so that it is better
 // than nothing only if all of it is free or it is locked.
 fn better_by_single(o: &[u8], r: usize, above: usize, width: usize, work: &mut [u64])
-    requires running { Running o.now width work.old × IsTaxon o.now r }
-    requires above_le_most_above { above ≤ mostAbove }
+    requires running { Running o.now width work.old }
+    requires taxon { IsTaxon o.now r }
+    requires above_few { above ≤ mostAbove }
     ensures { BySingle o.now r above width work.old work.new }
 {
     let cost = above + price_of(o, r) as usize;

@@ -13,8 +13,8 @@ use outline::fields::{branch_of, is_locked, is_taxon, price_of};
 
 // 2 to the number of taxa after record r.
 fn weight_of(o: &[u8], r: usize) -> u64
-    requires fact { IsRecord o.now r }
-    requires r_bound { weight o.now r < wordLimit }
+    requires is_record { IsRecord o.now r }
+    requires weight_fits { weight o.now r < wordLimit }
     ensures { result ≡ weight o.now r }
 {
     let mut w: u64 = 1;
@@ -31,7 +31,8 @@ fn weight_of(o: &[u8], r: usize) -> u64
 // Taxon r by itself, at the diversity and the cost that it has.
 pub fn taxon_of(o: &[u8], r: usize, diversity: u64, cost: u64) -> Candidate
     requires taxon { IsTaxon o.now r }
-    requires diversity_lt_lift { (diversity < lift) × (cost < unit) }
+    requires diversity_fits { diversity < lift }
+    requires cost_fits { cost < unit }
     ensures { view result ≡ some (taxonWorth o.now r diversity cost) }
 {
     Candidate::some(is_locked(o, r) as u64, diversity, cost, weight_of(o, r))

@@ -13,5 +13,5 @@ unfolding badLink
 returns-else-r-eq1 c =
     let tally = c.requires.tally in
     let named-here : get_or c.args.counts.now c.args.r 0 ≡ named c.args.o.now c.args.r =
-    tally.each c.args.r (omega (arith, c.requires.fact.high, tally.few)) in
+    tally.each c.args.r (omega (arith, c.requires.is_record.high, tally.few)) in
     simp (ne_eqb _ _ c.if-r-eq1.false, named-here, c.is_stray-2.ensures, c.first_of.ensures, c.is_stray.ensures, c.next_of-next.ensures)

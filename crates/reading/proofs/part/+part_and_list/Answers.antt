@@ -30,12 +30,12 @@ pub read_part-returns-in_default : goal.read_part-returns-in_default
 read_part-returns-in_default t c = part-fails _ c.requires c.next-step.ensures c.in_default.not-Open c.in_default.not-Number
 
 -- ---- a list
-pub read_list-draft_record-requires-clause-k_lt_most_records : goal.read_list-draft_record-requires-clause-k_lt_most_records
-read_list-draft_record-requires-clause-k_lt_most_records t c = own-room (part-of c.in-Read.ensures).1
+pub read_list-draft_record-requires-clause-few : goal.read_list-draft_record-requires-clause-few
+read_list-draft_record-requires-clause-few t c = own-room (part-of c.in-Read.ensures).1
 
-pub read_list-draft_record-requires-in-Close-clause-k_lt_most_records :
-    goal.read_list-draft_record-requires-in-Close-clause-k_lt_most_records
-read_list-draft_record-requires-in-Close-clause-k_lt_most_records t c = own-room (part-of c.in-Read.ensures).1
+pub read_list-draft_record-requires-in-Close-clause-few :
+    goal.read_list-draft_record-requires-in-Close-clause-few
+read_list-draft_record-requires-in-Close-clause-few t c = own-room (part-of c.in-Read.ensures).1
 
 pub read_list-returns-in-Bad : goal.read_list-returns-in-Bad
 read_list-returns-in-Bad t c = list-unread c.requires c.in-Bad.ensures

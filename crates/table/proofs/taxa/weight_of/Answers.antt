@@ -4,7 +4,7 @@ use Rattle.table.proofs.taxa.weight_of.Goals as goal
 use Rattle.table.proofs.taxa.weight_of.Goals.{then-is_taxon, else-is_taxon}
 
 pub loop-q-init : goal.loop-q-init
-loop-q-init c = (c.requires.fact.high, search rules, sym (weight-last _))
+loop-q-init c = (c.requires.is_record.high, search rules, sym (weight-last _))
 
 pub overflow_mul-w : goal.overflow_mul-w
 overflow_mul-w c =
