@@ -1,36 +1,37 @@
 -- What is promised of every call: what the contract of `read` says of the answer and the outline is what the words ask.
-use Prim.Native.Nat.{ℕ, ◌*◌}
+use Prim.Native.Nat.{ℕ, suc, ◌*◌}
 use mathlib.Core.Path.{◌≡◌, refl, sym, ap, subst, ◌∙◌}
 use mathlib.Core.Logic.{◌↔◌}
-use mathlib.Core.Bool.{Bool, true, false, false≢true}
-use mathlib.Core.List.{List}
+use mathlib.Core.Bool.{Bool, false, false≢true}
+use mathlib.Core.List.{List, [], ◌∷◌}
 use native.Mathlib.Omega.{arith}
 use lib.Dec.{ltb}
 use lib.ListN.{length, take, drop}
 use borrow.Author.Tests.{ne_eqb, ltb-false}
 use Rattle.lists.specs.Lists.{over}
 use Rattle.lists.proofs.Buffers.{over-taken, over-past}
-use Rattle.refusals.specs.Refusals.{Ruling, passed, row}
+use Rattle.refusals.specs.Refusals.{Ruling, passed, row, rowAt}
 use Rattle.refusals.specs.Reply.{Reply}
-use Rattle.refusals.specs.Table.{FirstRow, here, later, fails, Gives, gives-none, gives-first}
+use Rattle.refusals.specs.Table.{LowestAt, lowestAt, FirstRow, here, later, end, fails, Gives, gives-none, gives-first}
 use Rattle.refusals.proofs.Refusals.{both-pass, row-fails}
 use Rattle.refusals.proofs.Replies.{told-passed, decided, granted-apart, refused-determined}
 use Rattle.refusals.proofs.Tests.{Decides, decides-less}
-use Rattle.refusals.proofs.Tables.{gives-then, gives-passed, gives-whole}
+use Rattle.refusals.proofs.Tables.{gives-then, gives-passed, gives-whole, gives-lowest}
+use Rattle.outline.specs.Outline.{size}
 use Rattle.outline.specs.Answer.{recordRows, checked}
 use Rattle.outline.proofs.Demands.{records-give}
 use Rattle.newick.specs.Grammar.{part, Tree, Spells}
 use Rattle.newick.specs.Layout.{count, plates, layout}
 use Rattle.newick.specs.Pairs.{priceIn, badPairs}
 use Rattle.newick.specs.Parsing.{Parsed, unread, tree, parsed}
-use Rattle.reading.specs.Answer.{Call, Figures, numbersOf, told, rowsFor, judged, outlineOf, reply, outlineAfter, Answered}
-use Rattle.reading.specs.Demands.{OfTree, tableOf, readTable, ReadOrRefused, TreeGiven}
+use Rattle.reading.specs.Answer.{Call, Figures, numbersOf, told, rowsFor, judged, reply, outlineAfter, Answered}
+use Rattle.reading.specs.Demands.{OfTree, lowestOfTree, readTable, ReadOrRefused, TreeGiven}
 use Rattle.reading.specs.declared.answer.Answer.{Answer}
-use Rattle.reading.proofs.Answers.{layout-length}
+use Rattle.reading.proofs.Answers.{layout-length, layout-size}
 use Rattle.reading.proofs.Bounds.{layout-sized}
 use Rattle.reading.proofs.Pairing.{decides-pairs, pairs-once, priced}
-use Rattle.newick.proofs.Spelling.{parsed-sound, parsed-complete, one-tree, unread-none}
-use Rattle.outline.specs.Rules.{mostRecords}
+use Rattle.newick.proofs.Spelling.{parsed-sound, one-tree, unread-none}
+use Rattle.outline.specs.Rules.{mostRecords, mostTaxa, badField, badLink, taxa, isDuplicate}
 
 -- the numbers told determine the answer
 pub told-determined : (a b : Answer) → told a ≡ told b → a ≡ b
@@ -46,33 +47,50 @@ module _ (c : Call) where
       → Decides (OfTree c condition) b
   decides-tree {condition} t s d = (λ h. (t, s, d.0 h), λ (u, r, k). d.1 (subst condition (one-tree r s) k))
 
-  decides-none : {condition : Tree part → Type 0} → ((t : Tree part) → Spells t c.text → ⊥) → Decides (OfTree c condition) false
-  decides-none n = (λ h. let z : ◌≡◌ {A = ℕ} 0 1 = cc in absurd (omega arith), λ (u, r, k). absurd (n u r))
+  -- the lowest record of the one tree that is spelled
+  lowest-of-tree : (n : ℕ) (condition : List ℕ → ℕ → Bool) (t : Tree part) → Spells t c.text → Gives (lowestOfTree c (suc n) condition ∷ [])
+      (rowAt (suc n) (condition (layout (priceIn c.pairs) t)) (size (layout (priceIn c.pairs) t)))
+  lowest-of-tree n condition t s =
+      rw (layout-size (priceIn c.pairs) t) (go (gives-lowest n (count t) (condition (layout (priceIn c.pairs) t))))
+    where
+      Lowest : Tree part → ℕ → Type 0
+      Lowest u p = LowestAt (count u) (condition (layout (priceIn c.pairs) u)) p
+
+      go : {v : Ruling} → Gives (lowestAt (suc n) (count t) (condition (layout (priceIn c.pairs) t)) ∷ []) v
+          → Gives (lowestOfTree c (suc n) condition ∷ []) v
+      go (gives-none (fails f g)) = gives-none (fails (λ p (u, r, k). f p (subst (λ u. Lowest u p) (one-tree r s) k)) end)
+      go (gives-first l (here h) only) =
+          gives-first l (here (t, s, h)) (λ m q k. only m q (own k))
+        where
+          own : {m q : ℕ} → FirstRow (lowestOfTree c (suc n) condition ∷ []) m q
+              → FirstRow (lowestAt (suc n) (count t) (condition (layout (priceIn c.pairs) t)) ∷ []) m q
+          own {q = q} (here (u, r, k)) = here (subst (λ u. Lowest u q) (one-tree r s) k)
+          own (later _ k) = elim k [ ]
+      go (gives-first l (later _ h) only) = elim h [ ]
 
   judged-gives : Gives (readTable c) (judged c)
-  unfolding judged
+  unfolding judged rowsFor recordRows
   judged-gives = go (parsed c.text) refl
     where
-      go : (p : Parsed) → parsed c.text ≡ p → Gives (tableOf c p) (rowsFor p c.pairs (length c.outline))
-      go unread e =
-          unfold rowsFor in
-          let none = unread-none c.text e in
-          gives-then (gives-whole 9 {b = true} (λ _. none, λ _. refl))
-          (gives-then (gives-whole 2 (decides-none none))
-          (gives-then (gives-whole 10 (decides-none none))
-          (gives-then (gives-whole 8 (decides-none none)) (records-give (outlineOf c.pairs unread)))))
+      go : (p : Parsed) → parsed c.text ≡ p → Gives (readTable c) (rowsFor p c.pairs (length c.outline))
+      go unread e = gives-first (omega arith) (here (refl, none)) (λ m q h. only h)
+        where
+          none : (t : Tree part) → Spells t c.text → ⊥
+          none = unread-none c.text e
+
+          only : {m q : ℕ} → FirstRow (readTable c) m q → (m ≡ 10) × (q ≡ 0)
+          only (here h) = (refl, h.0)
+          only (later f k) = absurd (f 0 (refl, none))
       go (tree t) e =
-          unfold rowsFor in
           let s = parsed-sound t c.text e in
           gives-then (gives-whole 9 {b = false} (λ h. absurd (false≢true h), λ n. absurd (n t s)))
           (gives-then (gives-whole 2 (decides-tree t s (decides-less mostRecords (count t))))
           (gives-then (gives-whole 10 (decides-tree t s (decides-pairs (plates t) c.pairs)))
           (gives-then (gives-whole 8 (decides-tree t s (decides-less (length c.outline) (16 * count t))))
-          (records-give (outlineOf c.pairs (tree t))))))
-
-  -- rows 5 to 8 of the table are those of the outline of the tree that the text spells
-  pub table-spelled : (t : Tree part) → Spells t c.text → readTable c ≡ tableOf c (tree t)
-  table-spelled t s = ap (tableOf c) (parsed-complete t c.text s)
+          (gives-then (lowest-of-tree 4 badField t s)
+          (gives-then (lowest-of-tree 5 badLink t s)
+          (gives-then (gives-whole 6 (decides-tree t s (decides-less mostTaxa (taxa (layout (priceIn c.pairs) t)))))
+          (lowest-of-tree 7 isDuplicate t s)))))))
 
 -- ---- a tree that is read
 ten-not-zero : (pairs : List ℕ) (room : ℕ) → (rowsFor unread pairs room).number ≡ 0 → ⊥

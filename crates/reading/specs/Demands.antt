@@ -1,16 +1,14 @@
 -- The words of what is promised of a call of `read`: its table of refusals, and what an outline that was read is.
-use Rattle.std.specs.Prelude.{ℕ, ◌*◌, ◌%◌, ◌<◌, ◌≡◌, ◌⊎◌, ◌≢◌, List, [], ◌∷◌, ◌++◌, length, take, drop}
+use Rattle.std.specs.Prelude.{ℕ, ◌*◌, ◌%◌, ◌<◌, ◌≡◌, ◌⊎◌, ◌≢◌, Bool, List, [], ◌∷◌, length, take, drop}
 use Rattle.refusals.specs.Refusals.{passed}
 use Rattle.refusals.specs.Reply.{Reply, rulingOf}
-use Rattle.refusals.specs.Table.{Row, whole, Decided}
+use Rattle.refusals.specs.Table.{LowestAt, Row, whole, Decided}
 use Rattle.outline.specs.Answer.{checked}
-use Rattle.outline.specs.Demands.{recordTable}
 use Rattle.newick.specs.Grammar.{part, Tree, Spells}
 use Rattle.newick.specs.Layout.{count, plates, layout}
 use Rattle.newick.specs.Pairs.{priceIn, pairsOf}
-use Rattle.newick.specs.Parsing.{Parsed, parsed}
-use Rattle.reading.specs.Answer.{Call, Figures, numbersOf, outlineOf}
-use Rattle.outline.specs.Rules.{mostRecords}
+use Rattle.reading.specs.Answer.{Call, Figures, numbersOf}
+use Rattle.outline.specs.Rules.{mostRecords, mostTaxa, badField, badLink, taxa, isDuplicate}
 
 -- a number is in a list
 pub data In (x : ℕ) : List ℕ → Type 0 where
@@ -33,19 +31,25 @@ BadPairs plates pairs =
 abbrev pub OfTree : Call → (Tree part → Type 0) → Type 0
 OfTree c condition = (t : Tree part) × Spells t c.text × condition t
 
--- the table of a call, in the order in which it is judged: 10, 3, 11, 9, then 5 to 8 for the records of the tree, which `parsed`
--- gives exactly if the text spells it
-abbrev pub tableOf : Call → Parsed → List Row
-tableOf c p =
-    (whole 10 ((t : Tree part) → Spells t c.text → ⊥)
+-- a row whose place is the lowest record at which a condition holds, of the records of the tree that the text spells
+abbrev pub lowestOfTree : Call → ℕ → (List ℕ → ℕ → Bool) → Row
+lowestOfTree c n condition = record {
+  number = n;
+  holds = λ p. (t : Tree part) × Spells t c.text × LowestAt (count t) (condition (layout (priceIn c.pairs) t)) p;
+}
+
+-- the table of a call, in the order in which it is judged: 10, 3, 11, 9, then 5 to 8 for the records of the tree that the text spells
+abbrev pub readTable : Call → List Row
+readTable c =
+    whole 10 ((t : Tree part) → Spells t c.text → ⊥)
     ∷ whole 3 (OfTree c (λ t. mostRecords < count t))
     ∷ whole 11 (OfTree c (λ t. BadPairs (plates t) c.pairs))
     ∷ whole 9 (OfTree c (λ t. length c.outline < 16 * count t))
-    ∷ [])
-    ++ recordTable (outlineOf c.pairs p)
-
-abbrev pub readTable : Call → List Row
-readTable c = tableOf c (parsed c.text)
+    ∷ lowestOfTree c 5 badField
+    ∷ lowestOfTree c 6 badLink
+    ∷ whole 7 (OfTree c (λ t. mostTaxa < taxa (layout (priceIn c.pairs) t)))
+    ∷ lowestOfTree c 8 isDuplicate
+    ∷ []
 
 -- demand 1: a tree is read, and no row of the table holds; or exactly one refusal of the table, under its condition only, and
 -- then N is 0, and no byte of the outline is changed
