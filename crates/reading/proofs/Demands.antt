@@ -1,13 +1,13 @@
 -- What is promised of every call: what the contract of `read` says of the answer and the outline is what the words ask.
-use Prim.Native.Nat.{ℕ, suc, ◌*◌}
+use Prim.Native.Nat.{ℕ, suc, ◌*◌, ◌≤◌}
 use mathlib.Core.Path.{◌≡◌, refl, sym, ap, subst, ◌∙◌}
 use mathlib.Core.Logic.{◌↔◌}
-use mathlib.Core.Bool.{Bool, false, false≢true}
+use mathlib.Core.Bool.{Bool, true, false, false≢true}
 use mathlib.Core.List.{List, [], ◌∷◌}
 use native.Mathlib.Omega.{arith}
 use lib.Dec.{ltb}
 use lib.ListN.{length, take, drop}
-use borrow.Author.Tests.{ne_eqb, ltb-false}
+use borrow.Author.Tests.{ne_eqb, ltb-true, ltb-false}
 use Rattle.lists.specs.Lists.{over}
 use Rattle.lists.proofs.Buffers.{over-taken, over-past}
 use Rattle.refusals.specs.Refusals.{Ruling, passed, row, rowAt}
@@ -29,7 +29,9 @@ use Rattle.reading.specs.Demands.{OfTree, lowestOfTree, readTable, ReadOrRefused
 use Rattle.reading.specs.declared.answer.Answer.{Answer}
 use Rattle.reading.proofs.Answers.{layout-length, layout-size}
 use Rattle.reading.proofs.Bounds.{layout-sized}
+use Rattle.reading.proofs.Links.{layout-linked}
 use Rattle.reading.proofs.Pairing.{decides-pairs, pairs-once, priced}
+use Rattle.newick.proofs.Ranges.{spells-in-range}
 use Rattle.newick.proofs.Spelling.{parsed-sound, one-tree, unread-none}
 use Rattle.outline.specs.Rules.{mostRecords, mostTaxa, badField, badLink, taxa, isDuplicate}
 
@@ -165,6 +167,30 @@ module _ (c : Call) {r : Reply Figures} {outline : List ℕ} (x : Answered c r o
       given-ten : ((t : Tree part) → Spells t c.text → ⊥) → {t : Ruling} → Gives (readTable c) t → t.number ≡ 10
       given-ten none (gives-none (fails f rest)) = absurd (f 0 (refl, none))
       given-ten none (gives-first l f only) = sym (only 10 0 (here (refl, none))).0
+
+  -- 6 is never given: the links are made by the reading
+  pub never-six : r.number ≡ 6 → ⊥
+  never-six e = none demand-1.given e
+    where
+      six : {n p : ℕ} → FirstRow (readTable c) n p → n ≡ 6 → ⊥
+      six (here h) e = omega arith
+      six (later f (here h)) e = omega arith
+      six (later f (later g (here h))) e = omega arith
+      six (later f (later g (later i (here h)))) e = omega arith
+      six (later f (later g (later i (later j (here h))))) e = omega arith
+      six {p = p} (later f (later g (later i (later j (later k (here (t, s, at))))))) e =
+          false≢true (sym (layout-linked (priceIn c.pairs) t (spells-in-range s) (few (ltb mostRecords (count t)) refl) p at.low at.high) ∙ at.here)
+        where
+          few : (b : Bool) → ltb mostRecords (count t) ≡ b → count t ≤ mostRecords
+          few true is = absurd (g 0 (refl, (t, s, ltb-true mostRecords (count t) is)))
+          few false is = ltb-false mostRecords (count t) is
+      six (later f (later g (later i (later j (later k (later l (here h))))))) e = omega arith
+      six (later f (later g (later i (later j (later k (later l (later m (here h)))))))) e = omega arith
+      six (later f (later g (later i (later j (later k (later l (later m (later _ h)))))))) e = elim h [ ]
+
+      none : {t : Ruling} → Gives (readTable c) t → t.number ≡ 6 → ⊥
+      none (gives-none f) e = omega arith
+      none (gives-first l f only) e = six f e
 
   -- where number 0 is given, the tree of the text is read
   pub tree-given : r.number ≡ 0 → TreeGiven c r outline

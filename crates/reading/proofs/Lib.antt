@@ -6,6 +6,7 @@ pub mod Drafts
 pub mod Endings
 pub mod Grown
 pub mod Lengths
+pub mod Links
 pub mod Meeting
 pub mod Pairing
 pub mod Parts

@@ -1,0 +1,119 @@
+-- The links of a tree that is laid out keep the rule of refusal 6: each leads to a later record, record 1 has no next, and each other
+-- record is named once.
+use Rattle.std.specs.Prelude.{if◌then◌else◌}
+use Prim.Native.Nat.{ℕ, zero, suc, ◌+◌, ◌≤◌, ◌<◌}
+use mathlib.Core.Path.{◌≡◌, refl, ap, subst, fun_ext, ◌∙◌}
+use mathlib.Core.Bool.{Bool, true, false, ◌||◌, not}
+use mathlib.Core.List.{List, [], ◌∷◌, ◌++◌}
+use native.Mathlib.Omega.{arith}
+use lib.Dec.{eqb}
+use lib.ListN.{length}
+use borrow.Author.Tests.{eqb-true, eqb-false, eq-eqb, ne_eqb, le-ltb, lt-leb}
+use Rattle.lists.specs.Lists.{one, from, anywhere, total}
+use Rattle.lists.proofs.Bools.{eqb-comm}
+use Rattle.lists.proofs.Walk.{anywhere-none, nowhere-both}
+use Rattle.outline.specs.Outline.{size, records, next, first, IsRecord}
+use Rattle.outline.specs.Rules.{stray, naming, named, badLink, mostRecords}
+use Rattle.laws.proofs.Sums.{total-append, occurs-once}
+use Rattle.newick.specs.Grammar.{Kind, part, chain, Tree}
+use Rattle.newick.specs.Inner.{InRange}
+use Rattle.newick.specs.Layout.{count, layout}
+use Rattle.newick.proofs.Layouts.{count-some}
+use Rattle.newick.proofs.Regrown.{Regrown, layout-regrown}
+use Rattle.newick.proofs.Traced.{Traced, taxon-at, group-at, last-at, more-at, traced-count}
+use Rattle.reading.proofs.Answers.{layout-size}
+
+-- records numbered as they come, from k on
+data Numbered : ℕ → List ℕ → Type 0 where
+  none : {k : ℕ} → Numbered k []
+  and-then : {k : ℕ} {rs : List ℕ} → Numbered (k + 1) rs → Numbered k (k ∷ rs)
+
+numbered-from : (k n : ℕ) → Numbered k (from k n)
+unfolding from
+numbered-from k zero = none
+numbered-from k (suc n) = and-then (numbered-from (k + 1) n)
+
+numbered-both : {k : ℕ} (rs qs : List ℕ) → Numbered k (rs ++ qs) → Numbered k rs × Numbered (k + length rs) qs
+numbered-both {k} [] qs h = let e : k ≡ k + 0 = omega arith in (none, subst (λ j. Numbered j qs) e h)
+numbered-both (r ∷ rs) qs (and-then h) =
+    let both = numbered-both {k = r + 1} rs qs h in
+    let e : r + 1 + length rs ≡ r + suc (length rs) = omega arith in
+    (and-then both.0, subst (λ j. Numbered j qs) e both.1)
+
+module _ (o : List ℕ) where
+  -- a link that is none, and one to a later record
+  nowhere : (r link : ℕ) → link ≡ 0 → stray o r link ≡ false
+  nowhere r link z = rw (eq-eqb link 0 z)
+
+  onward : (r link : ℕ) → r < link → link ≤ size o → stray o r link ≡ false
+  onward r link l u = rw (ne_eqb link 0 (λ z. omega arith), lt-leb link r l, le-ltb (size o) link u)
+
+  abbrev strays : ℕ → Bool
+  strays r = stray o r (next o r) || stray o r (first o r)
+
+  -- a part or a chain begins with the first of its records
+  begins : {κ : Kind} {t : Tree κ} {r k : ℕ} {rs : List ℕ} → Traced o κ t r rs → Numbered k rs → (r ≡ k) × IsRecord o r
+  begins (taxon-at i e) (and-then h) = (refl, i)
+  begins (group-at i e x) (and-then h) = (refl, i)
+  begins (last-at e x) h = begins x h
+  begins (more-at {rs = rs} {qs = qs} e x y) h = begins x (numbered-both rs qs h).0
+
+  -- what is known of the next of a part, and what a chain's last member has
+  abbrev Goes : Kind → ℕ → Type 0
+  Goes part r = stray o r (next o r) ≡ false
+  Goes chain r = r ≡ r
+
+  -- no link is stray
+  straight : {κ : Kind} {t : Tree κ} {r k : ℕ} {rs : List ℕ} → Traced o κ t r rs → Numbered k rs → Goes κ r → anywhere strays rs ≡ false
+  unfolding anywhere
+  straight {r = r} (taxon-at i e) h g = rw (g, nowhere r (first o r) (eqb-true (first o r) 0 e))
+  straight {r = r} (group-at i e x) (and-then h) g =
+      let (is, at) = begins x h in
+      rw (g, onward r (first o r) (omega arith) at.high) (straight x h refl)
+  straight {r = r} (last-at e x) h g = straight x h (nowhere r (next o r) e)
+  straight {r = r} (more-at {t = t} {rs = rs} {qs = qs} e x y) h g =
+      let both = numbered-both rs qs h in
+      let (is, at) = begins y both.1 in
+      let l : r < next o r = omega (arith, (begins x both.0).0, traced-count x, count-some t) in
+      nowhere-both strays rs qs (straight x both.0 (onward r (next o r) l at.high)) (straight y both.1 refl)
+
+  -- the links of a part or a chain name each of its records but the first, and what a part's own next names
+  abbrev beyond : Kind → ℕ → ℕ → ℕ
+  beyond part r q = one (eqb (next o r) q)
+  beyond chain r q = 0
+
+  module _ (q : ℕ) (some : 0 < q) where
+    apart : (link : ℕ) → link ≡ 0 → one (eqb link q) ≡ 0
+    apart link z = ap one (ne_eqb link q (λ e. omega arith))
+
+    names : {κ : Kind} {t : Tree κ} {r : ℕ} {rs : List ℕ} → Traced o κ t r rs
+        → total (naming o q) rs + one (eqb r q) ≡ total (λ s. one (eqb s q)) rs + beyond κ r q
+    unfolding total naming
+    names {r = r} (taxon-at i e) = omega (arith, apart (first o r) (eqb-true (first o r) 0 e))
+    names (group-at i e x) = omega (arith, names x)
+    names {r = r} (last-at e x) = omega (arith, names x, apart (next o r) e)
+    names (more-at {rs = rs} {qs = qs} e x y) =
+        rw (total-append (naming o q) rs qs, total-append (λ s. one (eqb s q)) rs qs) (omega (arith, names x, names y))
+
+pub layout-linked : (cost : ℕ → ℕ) (t : Tree part) → InRange part t → count t ≤ mostRecords → (r : ℕ) → 1 ≤ r → r ≤ count t
+    → badLink (layout cost t) r ≡ false
+unfolding badLink named records
+layout-linked cost t range few r l u =
+    let own = straight o grown.traced (numbered-from 1 (count t)) (nowhere o 1 (next o 1) grown.next-is) in
+    rw (anywhere-none (strays o) (count t) own r l u) (go (eqb r 1) refl)
+  where
+    o : List ℕ
+    o = layout cost t
+
+    grown : Regrown o part t 1 0
+    grown = layout-regrown cost t range few
+
+    go : (b : Bool) → eqb r 1 ≡ b → (if b then not (eqb (next o r) 0) else not (eqb (named o r) 1)) ≡ false
+    go true e = ap not (eq-eqb (next o r) 0 (ap (next o) (eqb-true r 1 e) ∙ grown.next-is))
+    go false e =
+        let other = eqb-false r 1 e in
+        let once : total (λ s. one (eqb s r)) (from 1 (count t)) ≡ 1 =
+        ap (λ f. total f (from 1 (count t))) (fun_ext (λ s. ap one (eqb-comm s r))) ∙ occurs-once r 1 (count t) l (omega arith) in
+        let root : one (eqb 1 r) ≡ 0 = ap one (ne_eqb 1 r (λ e. omega arith)) in
+        let many : named o r ≡ total (naming o r) (from 1 (count t)) = ap (λ n. total (naming o r) (from 1 n)) (layout-size cost t) in
+        ap not (eq-eqb (named o r) 1 (omega (arith, many, once, root, names o r l grown.traced, apart o r l (next o 1) grown.next-is)))
