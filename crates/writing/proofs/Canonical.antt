@@ -1,4 +1,4 @@
--- The one spelling of a tree spells that tree.
+-- The one spelling of a tree spells that tree, and no blank, tab or line end is in it.
 use Prim.Native.Nat.{ℕ, ◌+◌, ◌*◌, ◌-◌, ◌/◌, ◌%◌, ◌≤◌, ◌<◌}
 use mathlib.Core.Path.{◌≡◌, subst}
 use mathlib.Core.List.{List, [], ◌∷◌, ◌++◌, append_assoc}
@@ -7,10 +7,11 @@ use lib.ListN.{length}
 use Rattle.text.specs.Text.{decimal}
 use Rattle.text.proofs.Decimal.{decimal-ind, decimal-some, decimal-most}
 use Rattle.newick.specs.Grammar.{Kind, part, Tree, taxon, group, last, more, Word, opening, closing, comma, colon, number}
-use Rattle.newick.specs.Grammar.{a-length, Spelled, a-taxon, a-group, the-last, one-more, mostBytes, Spells}
+use Rattle.newick.specs.Grammar.{Blank, blank, tab, line-feed, carriage-return, a-length, Spelled, a-taxon, a-group, the-last, one-more, mostBytes, Spells}
 use Rattle.newick.specs.Grammar.{opening-bracket, closing-bracket, a-comma, a-colon, a-semicolon}
 use Rattle.newick.specs.Grammar.{Digit, Digits, no-digits, a-digit, NoDigit, before, Written, nothing, after-mark, after-number}
 use Rattle.newick.specs.Inner.{InRange, taxon-in, group-in, last-in, more-in}
+use Rattle.reading.specs.Demands.{In, here, there}
 use Rattle.writing.specs.Text.{spelling, textOf}
 
 -- the digits of a number spell it
@@ -77,3 +78,40 @@ text-spells {t} r short =
       spelled = words-spelled t;
       written = spelling-written r (high-mark (omega arith)) (after-mark a-semicolon nothing);
     }
+
+-- ---- no blank, tab or line end is in it
+abbrev pub Dense : List ℕ → Type 0
+Dense bs = (b : ℕ) → In b bs → Blank b → ⊥
+
+no-blank : {b : ℕ} → 33 ≤ b → Blank b → ⊥
+no-blank h blank = omega arith
+no-blank h tab = omega arith
+no-blank h line-feed = omega arith
+no-blank h carriage-return = omega arith
+
+dense-then : {c : ℕ} {bs : List ℕ} → 33 ≤ c → Dense bs → Dense (c ∷ bs)
+dense-then h k b here = no-blank h
+dense-then h k b (there i) = k b i
+
+dense-both : (bs cs : List ℕ) → Dense bs → Dense cs → Dense (bs ++ cs)
+dense-both [] cs h k c i = k c i
+dense-both (b ∷ bs) cs h k c here = h c here
+dense-both (b ∷ bs) cs h k c (there i) = dense-both bs cs (λ d j. h d (there j)) k c i
+
+digits-dense : {v w : ℕ} {ds : List ℕ} → Digits v ds w → Dense ds
+digits-dense no-digits b i = elim i [ ]
+digits-dense (a-digit d r) b i = let h = d.low in dense-then (omega arith) (digits-dense r) b i
+
+length-dense : (l : ℕ) → Dense (58 ∷ decimal l)
+length-dense l = dense-then (omega arith) (digits-dense (decimal-digits l))
+
+spelling-dense : {κ : Kind} (t : Tree κ) → Dense (spelling t)
+unfolding spelling
+spelling-dense (taxon p l) = dense-both (decimal p) _ (digits-dense (decimal-digits p)) (length-dense l)
+spelling-dense (group ms l) = dense-then (omega arith) (dense-both (spelling ms) _ (spelling-dense ms) (dense-then (omega arith) (length-dense l)))
+spelling-dense (last t) = spelling-dense t
+spelling-dense (more t ms) = dense-both (spelling t) _ (spelling-dense t) (dense-then (omega arith) (spelling-dense ms))
+
+pub text-dense : (t : Tree part) → Dense (textOf t)
+unfolding textOf
+text-dense t = dense-both (spelling t) _ (spelling-dense t) (dense-then (omega arith) (λ b i. elim i [ ]))

@@ -26,10 +26,10 @@ use Rattle.outline.proofs.Demands.{checked-gives}
 use Rattle.reading.specs.Demands.{Pair}
 use Rattle.writing.specs.Text.{outlineText, outlinePairs}
 use Rattle.writing.specs.Answer.{Call, Figures, numbersOf, told, figures, tooShort, judged, reply, textAfter, pairsAfter, Answered}
-use Rattle.newick.specs.Trees.{unwritable}
+use Rattle.newick.specs.Trees.{treeOf, unwritable}
 use Rattle.writing.specs.Demands.{writeTable, WrittenOrRefused, TextGiven, HasRoom}
 use Rattle.writing.specs.declared.answer.Answer.{Answer}
-use Rattle.writing.proofs.Canonical.{text-spells}
+use Rattle.writing.proofs.Canonical.{text-spells, text-dense}
 use Rattle.writing.proofs.OwnBytes.{text-most, text-short}
 use Rattle.reading.proofs.Pairing.{priced}
 use Rattle.newick.proofs.Plain.{Plain, tree-in-range}
@@ -135,6 +135,7 @@ module _ (c : Call) {r : Reply Figures} {text pairs : List ℕ} (x : Answered c 
         bytes-are = bytes-are;
         text-is = text-is;
         spelled = rw text-is (text-spells (tree-in-range plain) (text-short plain));
+        no-blank = rw text-is (text-dense (treeOf o));
         text-rest = ap (drop r.figures.bytes) text-now ∙ over-past (outlineText o) c.text r.figures.bytes (sym bytes-are);
         one-each = omega (arith, pairs-count o plain.formed);
         pairs-are = pairs-are;

@@ -8,8 +8,8 @@ use Rattle.outline.specs.Outline.{size, price, plate, isTaxon, IsRecord}
 use Rattle.outline.specs.Answer.{checked}
 use Rattle.outline.specs.Demands.{checkTable}
 use Rattle.reading.specs.Answer as read
-use Rattle.reading.specs.Demands.{Pair}
-use Rattle.newick.specs.Grammar.{Spells}
+use Rattle.reading.specs.Demands.{In, Pair}
+use Rattle.newick.specs.Grammar.{Blank, Spells}
 use Rattle.newick.specs.Layout.{plates}
 use Rattle.newick.specs.Pairs.{paired}
 use Rattle.writing.specs.Text.{outlineText, outlinePairs}
@@ -31,13 +31,14 @@ writeTable c =
 abbrev pub WrittenOrRefused : Call → Reply Figures → List ℕ → List ℕ → Type 1
 WrittenOrRefused c r text pairs = Decided (writeTable c) (rulingOf r) (numbersOf r.figures) (c.text ∷ c.pairs ∷ []) (text ∷ pairs ∷ [])
 
--- an outline that was written is accepted. So many bytes are its text, and spell its tree; so many pairs are one for each taxon, in
+-- an outline that was written is accepted. So many bytes are its text, and spell its tree with no blank; so many pairs are one for each taxon, in
 -- the order of the tree's plates, each with the record's own price; what is past them is unchanged
 pub record TextGiven (c : Call) (r : Reply Figures) (text pairs : List ℕ) : Type 0 where
   pub accepted : checked c.outline ≡ passed
   pub bytes-are : r.figures.bytes ≡ length (outlineText c.outline)
   pub text-is : take r.figures.bytes text ≡ outlineText c.outline
   pub spelled : Spells (treeOf c.outline) (take r.figures.bytes text)
+  pub no-blank : (b : ℕ) → In b (take r.figures.bytes text) → Blank b → ⊥
   pub text-rest : drop r.figures.bytes text ≡ drop r.figures.bytes c.text
   pub one-each : r.figures.pairs ≡ taxa c.outline
   pub pairs-are : take (2 * r.figures.pairs) pairs ≡ outlinePairs c.outline
