@@ -1,9 +1,10 @@
--- The records of a tree that is laid out spell that tree, stand in text order, and can be written.
+-- The records of a tree that is laid out spell that tree, stand in text order, have its prices, and can be written.
 use Prim.Native.Nat.{ℕ, suc, ◌+◌, ◌*◌, ◌-◌, ◌/◌, ◌%◌, ◌≤◌}
 use mathlib.Core.Path.{◌≡◌, refl, sym, ap₂, subst, ◌∙◌}
-use mathlib.Core.Bool.{true, false}
+use mathlib.Core.Bool.{Bool, true, false, ◌&&◌, not}
 use mathlib.Core.List.{List, [], ◌∷◌, ◌++◌, append_assoc, append-nil}
 use native.Mathlib.Omega.{arith}
+use lib.Dec.{eqb}
 use lib.ListN.{drop}
 use borrow.Author.Tests.{eq-eqb, ne_eqb, le-ltb}
 use Rattle.lists.specs.Lists.{from, anywhere}
@@ -29,6 +30,19 @@ writable-group : (o : List ℕ) (r : ℕ) → isTaxon o r ≡ false → price o 
 unfolding unwritable locked
 writable-group o r t c h = rw (t, le-ltb 0 (price o r) (omega arith), le-ltb mostNumber (plate o r) (omega arith))
 
+-- ---- no taxon with another price than its plate's, which is written in four bytes
+unfoldable pub mispriced : (ℕ → ℕ) → List ℕ → ℕ → Bool
+mispriced cost o r = isTaxon o r && not (eqb (price o r) (cost (plate o r) % 4294967296))
+
+priced-taxon : (cost : ℕ → ℕ) (o : List ℕ) (r p : ℕ) → isTaxon o r ≡ true → plate o r ≡ p → price o r ≡ cost p % 4294967296
+    → mispriced cost o r ≡ false
+unfolding mispriced
+priced-taxon cost o r p t f c = rw (t, f, eq-eqb (price o r) (cost p % 4294967296) c)
+
+priced-group : (cost : ℕ → ℕ) (o : List ℕ) (r : ℕ) → isTaxon o r ≡ false → mispriced cost o r ≡ false
+unfolding mispriced
+priced-group cost o r t = rw t
+
 -- what follows a part is its next; a list's last member has none
 abbrev NextIs : (κ : Kind) → List ℕ → ℕ → ℕ → Type 0
 NextIs part o k n = next o k ≡ n
@@ -40,14 +54,15 @@ Ends part n = n ≡ n
 Ends chain n = n ≡ 0
 
 -- a tree whose rows stand from record k on
-pub record Regrown (o : List ℕ) (κ : Kind) (t : Tree κ) (k n : ℕ) : Type 0 where
+pub record Regrown (cost : ℕ → ℕ) (o : List ℕ) (κ : Kind) (t : Tree κ) (k n : ℕ) : Type 0 where
   pub traced : Traced o κ t k (from k (count t))
   pub next-is : NextIs κ o k n
   pub writable : anywhere (unwritable o) (from k (count t)) ≡ false
+  pub priced : anywhere (mispriced cost o) (from k (count t)) ≡ false
 
 module _ (o : List ℕ) (few : size o ≤ mostRecords) (cost : ℕ → ℕ) where
   regrown : {κ : Kind} {t : Tree κ} → InRange κ t → (k n : ℕ) → 1 ≤ k → k + count t ≤ size o + 1 → n ≤ size o + 1 → Ends κ n
-      → (rest : List ℕ) → drop (16 * (k - 1)) o ≡ rows cost t k n ++ rest → Regrown o κ t k n
+      → (rest : List ℕ) → drop (16 * (k - 1)) o ≡ rows cost t k n ++ rest → Regrown cost o κ t k n
   unfolding rows from anywhere
   regrown (taxon-in {p} {l} a b) k n low high small ends rest h =
       let fields = fields-back o k n 0 l (cost p) p rest h in
@@ -58,6 +73,7 @@ module _ (o : List ℕ) (few : size o ≤ mostRecords) (cost : ℕ → ℕ) wher
         traced = subst (λ t. Traced o part t k (k ∷ [])) is (taxon-at (record { low = low; high = omega arith }) e);
         next-is = omega (arith, fields.next-is);
         writable = rw (writable-taxon o k e (omega arith));
+        priced = rw (priced-taxon cost o k p e (omega arith) fields.price-is);
       }
   regrown (group-in {ms} {l} q b) k n low high small ends rest h =
       let own = recordBytes n (k + 1) l 0 0 in
@@ -65,7 +81,7 @@ module _ (o : List ℕ) (few : size o ≤ mostRecords) (cost : ℕ → ℕ) wher
       let fields = fields-back o k n (k + 1) l 0 0 (rows cost ms (k + 1) 0 ++ rest) g in
       let after = after-list o (16 * (k - 1)) 16 own (rows cost ms (k + 1) 0 ++ rest) (record-length n (k + 1) l 0 0) g in
       let i : 16 * (k - 1) + 16 ≡ 16 * (k + 1 - 1) = omega arith in
-      let below : Regrown o chain ms (k + 1) 0 = regrown q (k + 1) 0 (omega arith) (omega arith) (omega arith) refl rest (rw i at after) in
+      let below : Regrown cost o chain ms (k + 1) 0 = regrown q (k + 1) 0 (omega arith) (omega arith) (omega arith) refl rest (rw i at after) in
       let first-is : k + 1 ≡ first o k = omega (arith, fields.first-is) in
       let e : isTaxon o k ≡ false = ne_eqb (first o k) 0 (λ z. omega arith) in
       let members : Traced o chain ms (first o k) (from (k + 1) (count ms)) =
@@ -79,20 +95,21 @@ module _ (o : List ℕ) (few : size o ≤ mostRecords) (cost : ℕ → ℕ) wher
             (group-at (record { low = low; high = omega arith }) e members));
         next-is = omega (arith, fields.next-is);
         writable = rw (d, writable-group o k e (omega (arith, fields.price-is)) (omega (arith, fields.field-is))) below.writable;
+        priced = rw (d, priced-group cost o k e) below.priced;
       }
   regrown (last-in {t} q) k n low high small ends rest h =
-      let own : Regrown o part t k n = regrown q k n low high small refl rest h in
-      record { traced = last-at (own.next-is ∙ ends) own.traced; next-is = ends; writable = own.writable }
+      let own : Regrown cost o part t k n = regrown q k n low high small refl rest h in
+      record { traced = last-at (own.next-is ∙ ends) own.traced; next-is = ends; writable = own.writable; priced = own.priced }
   regrown (more-in {t} {ms} q s) k n low high small ends rest h =
       let to = k + count t in
       let some = count-some t in
       let later = count-some ms in
       let g : drop (16 * (k - 1)) o ≡ rows cost t k to ++ (rows cost ms to n ++ rest) =
       h ∙ append_assoc (rows cost t k to) (rows cost ms to n) rest in
-      let own : Regrown o part t k to = regrown q k to low (omega arith) (omega arith) refl (rows cost ms to n ++ rest) g in
+      let own : Regrown cost o part t k to = regrown q k to low (omega arith) (omega arith) refl (rows cost ms to n ++ rest) g in
       let after = after-list o (16 * (k - 1)) (16 * count t) (rows cost t k to) (rows cost ms to n ++ rest) (rows-length cost t k to) g in
       let i : 16 * (k - 1) + 16 * count t ≡ 16 * (to - 1) = omega arith in
-      let others : Regrown o chain ms to n = regrown s to n (omega arith) (omega arith) small ends rest (rw i at after) in
+      let others : Regrown cost o chain ms to n = regrown s to n (omega arith) (omega arith) small ends rest (rw i at after) in
       let members : Traced o chain ms (next o k) (from to (count ms)) =
       subst (λ q. Traced o chain ms q (from to (count ms))) (sym own.next-is) others.traced in
       record {
@@ -100,10 +117,11 @@ module _ (o : List ℕ) (few : size o ≤ mostRecords) (cost : ℕ → ℕ) wher
             rw (from-both k (count t) (count ms)) (more-at {r = k} (omega (arith, own.next-is)) own.traced members);
         next-is = ends;
         writable = rw (from-both k (count t) (count ms)) (nowhere-both (unwritable o) (from k (count t)) (from to (count ms)) own.writable others.writable);
+        priced = rw (from-both k (count t) (count ms)) (nowhere-both (mispriced cost o) (from k (count t)) (from to (count ms)) own.priced others.priced);
       }
 
 -- a tree that is laid out
-pub layout-regrown : (cost : ℕ → ℕ) (t : Tree part) → InRange part t → count t ≤ mostRecords → Regrown (layout cost t) part t 1 0
+pub layout-regrown : (cost : ℕ → ℕ) (t : Tree part) → InRange part t → count t ≤ mostRecords → Regrown cost (layout cost t) part t 1 0
 unfolding layout
 layout-regrown cost t range few =
     let o = rows cost t 1 0 in

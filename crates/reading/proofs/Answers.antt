@@ -21,7 +21,7 @@ use Rattle.newick.specs.Layout.{count, layout}
 use Rattle.newick.specs.Pairs.{priceIn, badPairs}
 use Rattle.newick.specs.Parsing.{Parsed, unread, tree, grown, parsed}
 use Rattle.reading.specs.Scan.{isTree}
-use Rattle.reading.specs.Answer.{call, Figures, told, rowsFor, judged, reply, outlineAfter, Answered}
+use Rattle.reading.specs.Answer.{call, Figures, told, rowsFor, judged, reply, outlineAfter, Numbers, Answered}
 use Rattle.newick.specs.Inner.{platesOf}
 use Rattle.reading.specs.Inner.{TreeRead, tree-bad, tree-many, tree-read, placeRows, Placed}
 use Rattle.reading.specs.declared.answer.Answer.{Answer}
@@ -102,14 +102,14 @@ begins pairs draft after n t c d =
     ap (take (16 * n)) d ∙ take_at o (drop (length o) draft) (16 * n) (omega (arith, layout-length (priceIn pairs) t))
 
 -- ---- every way out
-module _ (text pairs outline : List ℕ) where
+module _ (text pairs outline : List ℕ) (numbers : Numbers pairs) where
   -- a refusal leaves the outline as it was
   refuses : (e : Refusal) → rowsFor (parsed text) pairs (length outline) ≡ refusal e
       → Answered (call text pairs outline) (told (Answer.Refused e)) outline
   unfolding judged reply outlineAfter
   refuses e h =
       let f : eqb (rowsFor (parsed text) pairs (length outline)).number 0 ≡ false = ap (λ (t : Ruling). eqb t.number 0) h ∙ refusal-not-zero e in
-      record { told-reply = rw (f, h); outline-written = rw f }
+      record { told-reply = rw (f, h); outline-written = rw f; pairs-numbers = numbers }
 
   unread-answered : parsed text ≡ unread → Answered (call text pairs outline) (told (Answer.Refused Refusal.BadText)) outline
   unfolding rowsFor
@@ -149,4 +149,5 @@ module _ (text pairs outline : List ℕ) where
         record {
           told-reply = rw (p, rows-placed text t pairs (length outline) p (omega arith), ← layout-size (priceIn pairs) t) w'.told-placed;
           outline-written = rw (p, rows-placed text t pairs (length outline) p (omega arith)) w'.outline-placed;
+          pairs-numbers = numbers;
         }

@@ -17,23 +17,25 @@ use Rattle.refusals.proofs.Refusals.{both-pass, row-fails}
 use Rattle.refusals.proofs.Replies.{told-passed, decided, granted-apart, refused-determined}
 use Rattle.refusals.proofs.Tests.{Decides, decides-less}
 use Rattle.refusals.proofs.Tables.{gives-then, gives-passed, gives-whole, gives-lowest}
-use Rattle.outline.specs.Outline.{size}
+use Rattle.outline.specs.Outline.{size, price, plate}
+use Rattle.outline.specs.Rules.{mostRecords, mostTaxa, badField, badLink, taxa, isDuplicate}
 use Rattle.outline.specs.Answer.{recordRows, checked}
 use Rattle.outline.proofs.Demands.{records-give}
 use Rattle.newick.specs.Grammar.{part, Tree, Spells}
 use Rattle.newick.specs.Layout.{count, plates, layout}
 use Rattle.newick.specs.Pairs.{priceIn, badPairs}
+use Rattle.newick.specs.Trees.{treeOf}
 use Rattle.newick.specs.Parsing.{Parsed, unread, tree, parsed}
 use Rattle.reading.specs.Answer.{Call, Figures, numbersOf, told, rowsFor, judged, reply, outlineAfter, Answered}
-use Rattle.reading.specs.Demands.{OfTree, lowestOfTree, readTable, ReadOrRefused, TreeGiven}
+use Rattle.reading.specs.Demands.{In, Pair, OfTree, lowestOfTree, readTable, ReadOrRefused, TreeGiven}
 use Rattle.reading.specs.declared.answer.Answer.{Answer}
 use Rattle.reading.proofs.Answers.{layout-length, layout-size}
 use Rattle.reading.proofs.Bounds.{layout-sized}
 use Rattle.reading.proofs.Links.{layout-linked}
 use Rattle.reading.proofs.Pairing.{decides-pairs, pairs-once, priced}
+use Rattle.reading.proofs.Settled.{price-small, layout-settled}
 use Rattle.newick.proofs.Ranges.{spells-in-range}
 use Rattle.newick.proofs.Spelling.{parsed-sound, one-tree, unread-none}
-use Rattle.outline.specs.Rules.{mostRecords, mostTaxa, badField, badLink, taxa, isDuplicate}
 
 -- the numbers told determine the answer
 pub told-determined : (a b : Answer) → told a ≡ told b → a ≡ b
@@ -119,21 +121,32 @@ passed-given : (c : Call) {r : Reply Figures} {outline : List ℕ} → Answered 
 unfolding judged reply outlineAfter
 passed-given c {r} {outline} x t e z =
     let o = layout (priceIn c.pairs) t in
+    let spelled = parsed-sound t c.text e in
     let pass = rows-pass t c.pairs (length c.outline) z in
+    let accepted = layout-accepted t c.pairs (length c.outline) z in
+    let settled = layout-settled (priceIn c.pairs) t (spells-in-range spelled) accepted in
+    let its-price : (p : ℕ) → In p (plates t) → Pair p (priceIn c.pairs p) c.pairs = λ p i. priced c.pairs p (pairs-once (plates t) c.pairs pass.1 p i) in
     let records-are : r.figures.records ≡ count t = rw (x.told-reply, e, z) in
     let written : outline ≡ over o c.outline = x.outline-written ∙ rw (e, z) in
     let long : length o ≡ 16 * r.figures.records = omega (arith, layout-length (priceIn c.pairs) t) in
     let begins : take (16 * r.figures.records) outline ≡ o = ap (take (16 * r.figures.records)) written ∙ over-taken o c.outline (16 * r.figures.records) long in
     record {
       tree = t;
-      spelled = parsed-sound t c.text e;
-      only = λ u s. one-tree s (parsed-sound t c.text e);
+      spelled = spelled;
+      only = λ u s. one-tree s spelled;
       records-are = records-are;
       begins = begins;
       rest = ap (drop (16 * r.figures.records)) written ∙ over-past o c.outline (16 * r.figures.records) long;
-      accepted = rw begins (layout-accepted t c.pairs (length c.outline) z);
+      accepted = rw begins accepted;
       one-pair = pairs-once (plates t) c.pairs pass.1;
-      its-price = λ p i. priced c.pairs p (pairs-once (plates t) c.pairs pass.1 p i);
+      its-price = its-price;
+      own-price = rw begins (λ q i f.
+          let (among, is) = settled.priced q i f in
+          let small = price-small c.pairs x.pairs-numbers (plate o q) in
+          let same : priceIn c.pairs (plate o q) ≡ price o q = omega arith in
+          subst (λ p. Pair (plate o q) p c.pairs) same (its-price (plate o q) among));
+      in-order = rw begins settled.order;
+      tree-is = rw begins settled.tree-is;
     }
 
 -- ---- the promises
@@ -205,3 +218,7 @@ module _ (c : Call) {r : Reply Figures} {outline : List ℕ} (x : Answered c r o
       go : (p : Parsed) → parsed c.text ≡ p → TreeGiven c r outline
       go unread e = absurd (ten-not-zero c.pairs (length c.outline) (judged-zero unread e))
       go (tree t) e = passed-given c x t e (judged-zero (tree t) e)
+
+  -- its records make the tree that the text spells
+  pub read-tree : r.number ≡ 0 → (t : Tree part) → Spells t c.text → treeOf (take (16 * r.figures.records) outline) ≡ t
+  read-tree z t s = let given = tree-given z in given.tree-is ∙ sym (given.only t s)

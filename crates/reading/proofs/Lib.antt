@@ -11,3 +11,4 @@ pub mod Meeting
 pub mod Pairing
 pub mod Parts
 pub mod Scanning
+pub mod Settled

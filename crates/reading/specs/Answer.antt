@@ -1,5 +1,5 @@
 -- What a call of `read` is answered, and what it leaves in the outline that it was lent.
-use Rattle.std.specs.Prelude.{ℕ, ◌*◌, ◌≡◌, true, List, [], ◌∷◌, length, ltb}
+use Rattle.std.specs.Prelude.{ℕ, ◌*◌, ◌<◌, ◌≡◌, true, List, [], ◌∷◌, length, get_or, ltb}
 use Rattle.refusals.specs.Refusals.{Ruling, refusal, row, ◌▸◌, after}
 use Rattle.refusals.specs.Reply.{Reply, granted, refused, replied}
 use Rattle.outline.specs.Answer.{recordRows}
@@ -69,7 +69,13 @@ reply c = replied noFigures (judged c) (figures c)
 unfoldable pub outlineAfter : Call → List ℕ
 outlineAfter c = after (judged c) (outlineOf c.pairs (parsed c.text)) c.outline
 
--- what a call ensures, of the numbers that it is told and of the outline as it leaves it
+-- a list of 32-bit numbers
+pub record Numbers (ns : List ℕ) : Type 0 where
+  pub small : (i : ℕ) → get_or ns i 0 < 4294967296
+
+-- what a call ensures, of the numbers that it is told and of the outline as it leaves it; and that its pairs are 32-bit numbers, as
+-- those of every `&[u32]` are
 pub record Answered (c : Call) (r : Reply Figures) (outline : List ℕ) : Type 0 where
   pub told-reply : r ≡ reply c
   pub outline-written : outline ≡ outlineAfter c
+  pub pairs-numbers : Numbers c.pairs

@@ -1,14 +1,17 @@
 -- The words of what is promised of a call of `read`: its table of refusals, and what an outline that was read is.
-use Rattle.std.specs.Prelude.{ℕ, ◌*◌, ◌%◌, ◌<◌, ◌≡◌, ◌⊎◌, ◌≢◌, Bool, List, [], ◌∷◌, length, take, drop}
+use Rattle.std.specs.Prelude.{ℕ, ◌*◌, ◌%◌, ◌<◌, ◌≡◌, ◌⊎◌, ◌≢◌, Bool, true, List, [], ◌∷◌, length, take, drop}
 use Rattle.refusals.specs.Refusals.{passed}
 use Rattle.refusals.specs.Reply.{Reply, rulingOf}
 use Rattle.refusals.specs.Table.{LowestAt, Row, whole, Decided}
+use Rattle.outline.specs.Outline.{price, plate, isTaxon, IsRecord}
+use Rattle.outline.specs.Rules.{mostRecords, mostTaxa, badField, badLink, taxa, isDuplicate}
 use Rattle.outline.specs.Answer.{checked}
+use Rattle.diversity.specs.Order.{InTextOrder}
 use Rattle.newick.specs.Grammar.{part, Tree, Spells}
 use Rattle.newick.specs.Layout.{count, plates, layout}
 use Rattle.newick.specs.Pairs.{priceIn, pairsOf}
+use Rattle.newick.specs.Trees.{treeOf}
 use Rattle.reading.specs.Answer.{Call, Figures, numbersOf}
-use Rattle.outline.specs.Rules.{mostRecords, mostTaxa, badField, badLink, taxa, isDuplicate}
 
 -- a number is in a list
 pub data In (x : ℕ) : List ℕ → Type 0 where
@@ -57,7 +60,7 @@ abbrev pub ReadOrRefused : Call → Reply Figures → List ℕ → Type 1
 ReadOrRefused c r outline = Decided (readTable c) (rulingOf r) (numbersOf r.figures) (c.outline ∷ []) (outline ∷ [])
 
 -- a text that was read spells one tree; N is its count of records, and the outline begins with them: each taxon has the price of
--- its one pair, the check accepts them, and what is past them is unchanged
+-- its one pair, the check accepts them, they stand in text order and their links make the tree; and what is past them is unchanged
 pub record TreeGiven (c : Call) (r : Reply Figures) (outline : List ℕ) : Type 0 where
   pub tree : Tree part
   pub spelled : Spells tree c.text
@@ -68,3 +71,7 @@ pub record TreeGiven (c : Call) (r : Reply Figures) (outline : List ℕ) : Type 
   pub accepted : checked (take (16 * r.figures.records) outline) ≡ passed
   pub one-pair : (p : ℕ) → In p (plates tree) → pairsOf c.pairs p ≡ 1
   pub its-price : (p : ℕ) → In p (plates tree) → Pair p (priceIn c.pairs p) c.pairs
+  pub own-price : (q : ℕ) → IsRecord (take (16 * r.figures.records) outline) q → isTaxon (take (16 * r.figures.records) outline) q ≡ true
+      → Pair (plate (take (16 * r.figures.records) outline) q) (price (take (16 * r.figures.records) outline) q) c.pairs
+  pub in-order : InTextOrder (take (16 * r.figures.records) outline)
+  pub tree-is : treeOf (take (16 * r.figures.records) outline) ≡ tree

@@ -9,38 +9,35 @@ use lib.ListN.{length, take}
 use borrow.Author.Tests.{eqb-true, eqb-false, le-ltb}
 use Rattle.lists.specs.Lists.{from, lowest, over, Bytes}
 use Rattle.lists.proofs.Buffers.{over-taken}
-use Rattle.lists.proofs.Walk.{lowest-holds, anywhere-none}
+use Rattle.lists.proofs.Walk.{lowest-holds}
 use Rattle.refusals.specs.Refusals.{Ruling, passed}
 use Rattle.refusals.specs.Reply.{Reply, granted}
 use Rattle.refusals.proofs.Refusals.{both-pass}
 use Rattle.refusals.proofs.Tables.{gives-passed}
-use Rattle.outline.specs.Outline.{size, records}
+use Rattle.outline.specs.Outline.{size}
 use Rattle.outline.specs.Answer.{sizeRows, recordRows, checked}
-use Rattle.outline.proofs.WellFormed.{accepted-formed}
 use Rattle.outline.proofs.Demands.{records-give}
 use Rattle.diversity.specs.Order.{InTextOrder}
 use Rattle.laws.proofs.Chains.{clade-size}
 use Rattle.reading.specs.Answer as read
 use Rattle.reading.specs.Demands.{TreeGiven}
-use Rattle.newick.specs.Grammar.{part, Tree, Spells}
-use Rattle.newick.specs.Inner.{InRange}
+use Rattle.newick.specs.Grammar.{Spells}
 use Rattle.newick.specs.Layout.{count, layout}
 use Rattle.newick.specs.Pairs.{priceIn}
 use Rattle.newick.specs.Parsing.{tree, parsed}
+use Rattle.reading.proofs.Settled.{layout-settled}
 use Rattle.writing.specs.Text.{outlineText, outlinePairs}
 use Rattle.newick.specs.Trees.{treeOf}
 use Rattle.writing.specs.Answer.{Call, Figures, judged, Answered}
 use Rattle.newick.specs.Trees.{unwritable}
 use Rattle.writing.specs.Demands.{Handed, Returned, GivenBack, HasRoom, WroteAlike}
-use Rattle.reading.proofs.Answers.{layout-size}
 use Rattle.reading.proofs.Demands.{tree-given}
 use Rattle.newick.proofs.Ordered.{own-layout}
 use Rattle.newick.proofs.Plain.{Plain}
 use Rattle.writing.proofs.Priced.{own-price, pairs-count, pairs-good}
 use Rattle.newick.proofs.Ranges.{spells-in-range}
-use Rattle.newick.proofs.Regrown.{layout-regrown}
 use Rattle.newick.proofs.Spelling.{parsed-complete}
-use Rattle.newick.proofs.Traced.{tree-traced, traced-one, traced-count}
+use Rattle.newick.proofs.Traced.{tree-traced, traced-count}
 use Rattle.writing.proofs.Demands.{judged-plain, number-is, told-counts, roomy, text-given}
 use Rattle.outline.specs.Rules.{mostRecords, taxa}
 
@@ -95,61 +92,28 @@ same-bytes {c} x z order {d} h long y =
     (parsed-complete (treeOf c.outline) d.text spelled) (h.pairs-are ∙ given.pairs-are) long y
 
 -- ---- what is read from an accepted text
--- a tree's outline that is accepted has that tree, stands in text order, and can be written
-record Settled (t : Tree part) (o : List ℕ) : Type 0 where
-  tree-is : treeOf o ≡ t
-  order : InTextOrder o
-  plain : Plain o
-
-layout-settled : (cost : ℕ → ℕ) (t : Tree part) → InRange part t → checked (layout cost t) ≡ passed → Settled t (layout cost t)
-unfolding records
-layout-settled cost t range accepted =
-    let o = layout cost t in
-    let many = layout-size cost t in
-    let formed = accepted-formed o (ap (λ (u : Ruling). eqb u.number 0) accepted) in
-    let grown = layout-regrown cost t range (omega (arith, formed.size-most)) in
-    let same = traced-one (tree-traced o formed.linked) grown.traced in
-    record {
-      tree-is = same.0;
-      order = rw many same.1;
-      plain = record { formed = formed; writable = λ r i. anywhere-none (unwritable o) (count t) grown.writable r i.low (omega (arith, i.high)) };
-    }
-
 module _ {c : read.Call} {r : Reply read.Figures} {outline : List ℕ} (x : read.Answered c r outline) (z : r.number ≡ 0) where
   given : TreeGiven c r outline
   given = tree-given c x z
 
-  settled : Settled given.tree (take (16 * r.figures.records) outline)
-  settled =
-      let accepted = rw given.begins at given.accepted in
-      rw given.begins (layout-settled (priceIn c.pairs) given.tree (spells-in-range given.spelled) accepted)
-
-  -- it stands in text order, and has the tree that the text spells
-  pub read-order : InTextOrder (take (16 * r.figures.records) outline)
-  read-order = settled.order
-
-  pub read-tree : (t : Tree part) → Spells t c.text → treeOf (take (16 * r.figures.records) outline) ≡ t
-  read-tree t s = settled.tree-is ∙ sym (given.only t s)
-
   -- nothing but too little room stops a writing of it
   module _ (w : Call) (ret : Returned r outline w) where
-    returned : Settled given.tree w.outline
-    returned = rw ret settled
+    returned : Plain w.outline
+    returned = rw (ret, given.begins) (layout-settled (priceIn c.pairs) given.tree (spells-in-range given.spelled) (rw given.begins at given.accepted)).plain
 
     pub read-written : {s : Reply Figures} {text pairs : List ℕ} → Answered w s text pairs → HasRoom (length (outlineText w.outline)) (taxa w.outline) w
         → s.number ≡ 0
     unfolding judged
     read-written y room =
-        let plain = returned.plain in
         let accepted : checked w.outline ≡ passed = rw ret given.accepted in
-        let fits : length (outlinePairs w.outline) ≤ length w.pairs = omega (arith, pairs-count w.outline plain.formed, room.for-pairs) in
-        number-is w y ∙ rw (accepted, writable-nowhere plain, roomy w room.for-text fits)
+        let fits : length (outlinePairs w.outline) ≤ length w.pairs = omega (arith, pairs-count w.outline returned.formed, room.for-pairs) in
+        number-is w y ∙ rw (accepted, writable-nowhere returned, roomy w room.for-text fits)
 
     -- what was read and written is read again, and is the same outline
     pub read-again : {s : Reply Figures} {text pairs : List ℕ} → Answered w s text pairs → s.number ≡ 0
         → {d : read.Call} {u : Reply read.Figures} {again : List ℕ} → Handed s text pairs d → length w.outline ≤ length d.outline
         → read.Answered d u again → GivenBack w.outline d u again
-    read-again y e = same-bytes y e returned.order
+    read-again y e = same-bytes y e (rw ret given.in-order)
 
 -- from any accepted text, a second writing equals the first: what was read is written, read again, and written again
 pub second-writing : {c d : read.Call} {r q : Reply read.Figures} {outline again : List ℕ} {w v : Call} {s u : Reply Figures} {text pairs text' pairs' : List ℕ}
@@ -162,7 +126,7 @@ second-writing {r = r} {q = q} {outline = outline} {w = w} {v = v} {s = s} x z r
     let back = read-again x z w ret y e h long p in
     let first = text-given w y e in
     let many : q.figures.records ≡ size w.outline = ap (λ (a : Reply read.Figures). a.figures.records) back.told-size in
-    let whole : length w.outline ≡ 16 * q.figures.records = omega (arith, (returned x z w ret).plain.formed.whole) in
+    let whole : length w.outline ≡ 16 * q.figures.records = omega (arith, (returned x z w ret).formed.whole) in
     let same : v.outline ≡ w.outline =
     ret' ∙ ap (take (16 * q.figures.records)) back.same-bytes ∙ over-taken w.outline _ (16 * q.figures.records) whole in
     let enough : HasRoom (length (outlineText v.outline)) (taxa v.outline) v =

@@ -4,4 +4,4 @@ use Rattle.reading.proofs.Answers.{long-answered}
 use Rattle.reading.proofs.reader.read.Goals as goal
 
 pub returns-then-text-gt-MOST_BYTES : goal.returns-then-text-gt-MOST_BYTES
-returns-then-text-gt-MOST_BYTES c = long-answered _ _ _ (omega arith)
+returns-then-text-gt-MOST_BYTES c = long-answered _ _ _ (record { small = λ i. omega (arith, c.type_inv.pairs i) }) (omega arith)
