@@ -21,7 +21,7 @@ use Rattle.diversity.specs.Order.{InTextOrder}
 use Rattle.laws.proofs.Chains.{clade-size}
 use Rattle.reading.specs.Answer as read
 use Rattle.reading.specs.Demands.{TreeGiven}
-use Rattle.newick.specs.Grammar.{Spells}
+use Rattle.newick.specs.Grammar.{part, Tree, Spells}
 use Rattle.newick.specs.Layout.{count, layout}
 use Rattle.newick.specs.Pairs.{priceIn}
 use Rattle.newick.specs.Parsing.{tree, parsed}
@@ -31,7 +31,7 @@ use Rattle.newick.specs.Trees.{treeOf}
 use Rattle.writing.specs.Answer.{Call, Figures, judged, Answered}
 use Rattle.newick.specs.Trees.{unwritable}
 use Rattle.writing.specs.Demands.{Handed, Returned, GivenBack, HasRoom, WroteAlike}
-use Rattle.reading.proofs.Demands.{tree-given}
+use Rattle.reading.proofs.Demands.{tree-given, read-tree}
 use Rattle.newick.proofs.Ordered.{own-layout}
 use Rattle.newick.proofs.Plain.{Plain}
 use Rattle.writing.proofs.Priced.{own-price, pairs-count, pairs-good}
@@ -90,6 +90,20 @@ same-bytes {c} x z order {d} h long y =
     let spelled : Spells (treeOf c.outline) d.text = rw h.text-is given.spelled in
     back c.outline (judged-plain c (sym (number-is c x) ∙ z)) x.outline-bytes given.accepted order
     (parsed-complete (treeOf c.outline) d.text spelled) (h.pairs-are ∙ given.pairs-are) long y
+
+-- whatever the order of its records: where what was written is read, it is as many records, of the same tree
+pub same-tree : {c : Call} {r : Reply Figures} {text pairs : List ℕ} → Answered c r text pairs → r.number ≡ 0
+    → {d : read.Call} {s : Reply read.Figures} {outline : List ℕ} → Handed r text pairs d → read.Answered d s outline → s.number ≡ 0
+    → (s.figures.records ≡ size c.outline) × (treeOf (take (16 * s.figures.records) outline) ≡ treeOf c.outline)
+same-tree {c} x z {d} h y e =
+    let written = text-given c x z in
+    let back = tree-given d y e in
+    let spelled : Spells (treeOf c.outline) d.text = rw h.text-is written.spelled in
+    let same : treeOf c.outline ≡ back.tree = back.only (treeOf c.outline) spelled in
+    let linked = (judged-plain c (sym (number-is c x) ∙ z)).formed.linked in (
+      back.records-are ∙ ap (λ (t : Tree part). count t) (sym same) ∙ traced-count (tree-traced c.outline linked) ∙ clade-size c.outline linked,
+      read-tree d y e (treeOf c.outline) spelled,
+    )
 
 -- ---- what is read from an accepted text
 module _ {c : read.Call} {r : Reply read.Figures} {outline : List ℕ} (x : read.Answered c r outline) (z : r.number ≡ 0) where
