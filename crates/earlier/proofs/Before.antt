@@ -4,13 +4,13 @@ use mathlib.Core.Path.{◌≡◌, refl, sym, ap, ◌∙◌}
 use mathlib.Core.Bool.{Bool, true, false}
 use mathlib.Core.List.{List, [], ◌∷◌, foldl}
 use native.Mathlib.Omega.{arith}
-use borrow.Author.Tests.{le-leb, ne_eqb}
-use lib.Dec.{eqb}
-use Rattle.lists.specs.Lists.{one}
-use Rattle.lists.proofs.Bools.{and-false}
-use Rattle.lists.proofs.Walk.{lowest-ext, anywhere-lowest}
+use borrow.Author.Tests.{le-leb, ne_eqb, eqb-true, not-false}
+use lib.Dec.{eqb, ltb}
+use Rattle.lists.specs.Lists.{from, lowest, one}
+use Rattle.lists.proofs.Bools.{both-false}
+use Rattle.lists.proofs.Walk.{lowest-ext, lowest-none, anywhere-lowest}
 use Rattle.refusals.specs.Refusals.{row, ◌▸◌}
-use Rattle.outline.specs.Outline.{size, records, plateField, plate, isTaxon, locked}
+use Rattle.outline.specs.Outline.{size, records, branch, price, plateField, plate, isTaxon, locked}
 use Rattle.outline.specs.Answer.{recordRows, checked, foundAt, found}
 use Rattle.diversity.specs.Diversity.{cost}
 use Rattle.diversity.specs.Headings.{FreeHeadings}
@@ -25,22 +25,37 @@ use Rattle.choice.specs.Answer.{Call, tooShort, judged, figures, reply, curveOf,
 use Rattle.choice.proofs.Columns.{columns-ext}
 use Rattle.earlier.specs.Earlier as earlier
 use Rattle.earlier.specs.Before.{Unlocked, ChoosesAsBefore, AsBefore}
-use Rattle.outline.specs.Rules.{badField, hasPlate, isDuplicate}
+use Rattle.outline.specs.Rules.{mostLength, mostPrice, badField, hasPlate, isDuplicate}
 
 -- ---- without locks
 module _ (o : List ℕ) (unlocked : Unlocked o) where
-  plate-same : (r : ℕ) → 1 ≤ r → r ≤ size o → plate o r ≡ plateField o r
-  plate-same r l u = omega (arith, unlocked r (record { low = l; high = u }))
+  plate-same : (r : ℕ) → 1 ≤ r → r ≤ size o → isTaxon o r ≡ true → plate o r ≡ plateField o r
+  plate-same r l u t = omega (arith, unlocked r (record { low = l; high = u }) t)
 
   has-same : (p r : ℕ) → 1 ≤ r → r ≤ size o → hasPlate o p r ≡ earlier.hasPlate o p r
   unfolding hasPlate earlier.hasPlate
-  has-same p r l u = rw (plate-same r l u) refl
+  has-same p r l u = go (isTaxon o r) refl
+    where
+      go : (b : Bool) → isTaxon o r ≡ b → hasPlate o p r ≡ earlier.hasPlate o p r
+      go true t = rw (t, plate-same r l u t) refl
+      go false t = rw t refl
 
-  duplicate-same : (r : ℕ) → 1 ≤ r → r ≤ size o → isDuplicate o r ≡ earlier.isDuplicate o r
+  -- where its field is in range, a group's is 0
+  field-same : (r : ℕ) → 1 ≤ r → r ≤ size o → badField o r ≡ false → plate o r ≡ plateField o r
+  unfolding badField
+  field-same r l u e = go (isTaxon o r) refl
+    where
+      go : (b : Bool) → isTaxon o r ≡ b → plate o r ≡ plateField o r
+      go true t = plate-same r l u t
+      go false t =
+          let ranged = both-false (ltb mostPrice (price o r)) _ (both-false (ltb mostLength (branch o r)) _ (rw t at e)).1 in
+          omega (arith, eqb-true (plateField o r) 0 (not-false _ ranged.1))
+
+  duplicate-same : (r : ℕ) → 1 ≤ r → r ≤ size o → badField o r ≡ false → isDuplicate o r ≡ earlier.isDuplicate o r
   unfolding isDuplicate earlier.isDuplicate
-  duplicate-same r l u =
+  duplicate-same r l u e =
       sym (anywhere-lowest (hasPlate o (plate o r)) (r - 1))
-      ∙ rw (lowest-ext (hasPlate o (plate o r)) (earlier.hasPlate o (plate o r)) 1 (r - 1) (λ q m v. has-same (plate o r) q m (omega arith)), plate-same r l u)
+      ∙ rw (lowest-ext (hasPlate o (plate o r)) (earlier.hasPlate o (plate o r)) 1 (r - 1) (λ q m v. has-same (plate o r) q m (omega arith)), field-same r l u e)
       (anywhere-lowest (earlier.hasPlate o (plateField o r)) (r - 1))
 
   none-locked : locks o ≡ 0
@@ -48,9 +63,12 @@ module _ (o : List ℕ) (unlocked : Unlocked o) where
   none-locked = total-ext _ (λ r. 0) 1 (size o) each ∙ total-zero (records o)
     where
       each : (r : ℕ) → 1 ≤ r → r < 1 + size o → one (locked o r) ≡ 0
-      each r l u =
-          let low = ne_eqb (plateField o r / 2147483648 % 2) 1 (λ z. omega (arith, unlocked r (record { low = l; high = omega arith }))) in
-          rw (low, and-false (isTaxon o r)) refl
+      each r l u = go (isTaxon o r) refl
+        where
+          go : (b : Bool) → isTaxon o r ≡ b → one (locked o r) ≡ 0
+          go true t =
+              rw (t, ne_eqb (plateField o r / 2147483648 % 2) 1 (λ z. omega (arith, unlocked r (record { low = l; high = omega arith }) t))) refl
+          go false t = rw t refl
 
   always-held : (way b : ℕ) → isHolding (exhaustiveSearch o way b) ≡ true
   always-held way b = search-exactly o way b ∙ le-leb (cost o (lockedSet o)) b (omega (arith, unlocked-cost o none-locked))
@@ -69,13 +87,23 @@ record SameRules (e : earlier.Edition) (o : List ℕ) : Type 0 where
   costs : (s : List ℕ) → cost o s ≡ e.cost o s
 
 module _ (e : earlier.Edition) (o : List ℕ) (same : SameRules e o) where
+  -- row 5 holds in both at one record, or in neither
   records-same : recordRows o ≡ earlier.recordRows e o
   unfolding recordRows earlier.recordRows
-  records-same =
-      rw (
-        lowest-ext (badField o) (e.badField o) 1 (size o) (λ r l u. same.fields r l (omega arith)),
-        lowest-ext (isDuplicate o) (earlier.isDuplicate o) 1 (size o) (λ r l u. duplicate-same o same.unlocked r l (omega arith)),
-      ) refl
+  records-same = go (lowest (badField o) (from 1 (size o))) refl
+    where
+      both : lowest (badField o) (from 1 (size o)) ≡ lowest (e.badField o) (from 1 (size o))
+      both = lowest-ext (badField o) (e.badField o) 1 (size o) (λ r l u. same.fields r l (omega arith))
+
+      go : (p : ℕ) → lowest (badField o) (from 1 (size o)) ≡ p → recordRows o ≡ earlier.recordRows e o
+      go zero z =
+          let ranged = lowest-none (badField o) (size o) z in
+          rw (
+            both,
+            lowest-ext (isDuplicate o) (earlier.isDuplicate o) 1 (size o)
+                (λ r l u. duplicate-same o same.unlocked r l (omega arith) (ranged r l (omega arith))),
+          ) refl
+      go (suc p) z = rw (z, sym both ∙ z, ne_eqb (suc p) 0 (λ e. omega arith)) refl
 
   check-same : checked o ≡ earlier.checked e o
   unfolding checked earlier.checked
@@ -164,18 +192,20 @@ as-before e o same = record {
   choose = λ c q. chooses-same e c (rw q same);
 }
 
--- document 02, §4: outlines without a field above 2,147,483,647 give what they gave
+-- document 02, §4: outlines without a taxon's field above 2,147,483,647 give what they gave
 pub unlocked-as-before : (o : List ℕ) → Unlocked o → AsBefore earlier.withHeadings o
-unlocked-as-before o unlocked = as-before earlier.withHeadings o (record { unlocked = unlocked; fields = fields; costs = λ s. refl })
+unlocked-as-before o unlocked =
+    as-before earlier.withHeadings o (record { unlocked = unlocked; fields = λ r l u. fields r l u (isTaxon o r) refl; costs = λ s. refl })
   where
-    fields : (r : ℕ) → 1 ≤ r → r ≤ size o → badField o r ≡ earlier.badFieldPriced o r
-    fields r l u = unfold badField in unfold earlier.badFieldPriced in rw (plate-same o unlocked r l u) refl
+    fields : (r : ℕ) → 1 ≤ r → r ≤ size o → (b : Bool) → isTaxon o r ≡ b → badField o r ≡ earlier.badFieldPriced o r
+    fields r l u true t = unfold badField in unfold earlier.badFieldPriced in rw (t, plate-same o unlocked r l u t) refl
+    fields r l u false t = unfold badField in unfold earlier.badFieldPriced in rw t refl
 
 -- document 02, §2: those with headings of 0 give what they gave by document 01
 pub free-as-before : (o : List ℕ) → Unlocked o → FreeHeadings o → AsBefore earlier.document01 o
 free-as-before o unlocked free =
     as-before earlier.document01 o (record { unlocked = unlocked; fields = λ r l u. fields r l u (isTaxon o r) refl; costs = λ s. free-headings o s free })
   where
-    fields : (r : ℕ) → 1 ≤ r → r ≤ size o → (t : Bool) → isTaxon o r ≡ t → badField o r ≡ earlier.badFieldFirst o r
-    fields r l u true t = unfold badField in unfold earlier.badFieldFirst in rw (t, plate-same o unlocked r l u) refl
+    fields : (r : ℕ) → 1 ≤ r → r ≤ size o → (b : Bool) → isTaxon o r ≡ b → badField o r ≡ earlier.badFieldFirst o r
+    fields r l u true t = unfold badField in unfold earlier.badFieldFirst in rw (t, plate-same o unlocked r l u t) refl
     fields r l u false t = unfold badField in unfold earlier.badFieldFirst in rw (t, free r (record { low = l; high = u }) t) refl
