@@ -9,26 +9,26 @@ use Rattle.diversity.specs.Search.{columnsAlike, spare}
 use Rattle.diversity.specs.Cases.{Case, computed, selects, rival, given}
 use Rattle.outline.specs.Rules.{badField, naming, named, badLink, taxaIn, taxa, hasPlate, isDuplicate}
 
-treeA : List ℕ
+abbrev treeA : List ℕ
 treeA = recordBytes 0 2 0 0 0 ++ recordBytes 5 3 3 0 0 ++ recordBytes 4 0 4 3 11 ++ recordBytes 0 0 2 1 12 ++ recordBytes 0 0 5 2 13
 
 -- B: root (length 0), group of length 7, one taxon of length 0 and price 2
-treeB : List ℕ
+abbrev treeB : List ℕ
 treeB = recordBytes 0 2 0 0 0 ++ recordBytes 0 3 7 0 0 ++ recordBytes 0 0 0 2 1
 
 -- C: two taxa under a root of length 0, of one length and one price
-treeC : ℕ → ℕ → List ℕ
+abbrev treeC : ℕ → ℕ → List ℕ
 treeC length price = recordBytes 0 2 0 0 0 ++ recordBytes 3 0 length price 1 ++ recordBytes 0 0 length price 2
 
 -- D: three taxa under a root of length 0, lengths 6, 5, 5, prices 3, 2, 2
-treeD : List ℕ
+abbrev treeD : List ℕ
 treeD = recordBytes 0 2 0 0 0 ++ recordBytes 3 0 6 3 1 ++ recordBytes 4 0 5 2 2 ++ recordBytes 0 0 5 2 3
 
 -- E: one taxon, length 5, price 1
-treeE : List ℕ
+abbrev treeE : List ℕ
 treeE = recordBytes 0 0 5 1 1
 
-pub starred : List Case
+abbrev pub starred : List Case
 starred =
     -- A1: plate 12 alone, not 13 at equal diversity; spare 1
     given treeA 0 2 (selects (0 ∷ 0 ∷ 0 ∷ 1 ∷ 0 ∷ []) 5 1 1 1) (rival (0 ∷ 0 ∷ 0 ∷ 0 ∷ 1 ∷ []) 5 2 ∷ [])
@@ -60,5 +60,5 @@ unfolding
     from anywhere total lowest short long records badField naming named badLink taxaIn taxa hasPlate
     isDuplicate sizeRows recordRows checked chain clade chosen within elsewhere rooted unrooted diversity cost
     locked holdsLocked chosenTaxa subsets leads better fits turn exhaustiveSearch isHolding setOf optimum bestDiversity leastCost
-    columnsAlike spare bytes recordBytes treeA treeB treeC treeD treeE starred
+    columnsAlike spare bytes recordBytes
 starred-hold = refl
