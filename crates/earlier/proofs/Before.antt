@@ -23,8 +23,12 @@ use Rattle.laws.proofs.Locks.{unlocked-fits, unlocked-cost}
 use Rattle.laws.proofs.Optimum.{search-exactly}
 use Rattle.choice.specs.Answer.{Call, tooShort, judged, figures, reply, curveOf, marksAfter, curveAfter, workAfter}
 use Rattle.choice.proofs.Columns.{columns-ext}
+use Rattle.newick.specs.Grammar.{part, Tree, Spells}
+use Rattle.newick.specs.Layout.{layout}
+use Rattle.newick.proofs.Ranges.{spells-in-range}
 use Rattle.earlier.specs.Earlier as earlier
 use Rattle.earlier.specs.Before.{Unlocked, ChoosesAsBefore, AsBefore}
+use Rattle.earlier.proofs.Layouts.{layout-unlocked, layout-free}
 use Rattle.outline.specs.Rules.{mostLength, mostPrice, badField, hasPlate, isDuplicate}
 
 -- ---- without locks
@@ -202,10 +206,19 @@ unlocked-as-before o unlocked =
     fields r l u false t = unfold badField in unfold earlier.badFieldPriced in rw t refl
 
 -- document 02, §2: those with headings of 0 give what they gave by document 01
-pub free-as-before : (o : List ℕ) → Unlocked o → FreeHeadings o → AsBefore earlier.document01 o
-free-as-before o unlocked free =
-    as-before earlier.document01 o (record { unlocked = unlocked; fields = λ r l u. fields r l u (isTaxon o r) refl; costs = λ s. free-headings o s free })
+free-same : (o : List ℕ) → Unlocked o → FreeHeadings o → SameRules earlier.document01 o
+free-same o unlocked free = record { unlocked = unlocked; fields = λ r l u. fields r l u (isTaxon o r) refl; costs = λ s. free-headings o s free }
   where
     fields : (r : ℕ) → 1 ≤ r → r ≤ size o → (b : Bool) → isTaxon o r ≡ b → badField o r ≡ earlier.badFieldFirst o r
     fields r l u true t = unfold badField in unfold earlier.badFieldFirst in rw (t, plate-same o unlocked r l u t) refl
     fields r l u false t = unfold badField in unfold earlier.badFieldFirst in rw (t, free r (record { low = l; high = u }) t) refl
+
+pub free-as-before : (o : List ℕ) → Unlocked o → FreeHeadings o → AsBefore earlier.document01 o
+free-as-before o unlocked free = as-before earlier.document01 o (free-same o unlocked free)
+
+-- and rows 5 to 8 for the records of a tree that a text spells, by which `read` refuses it, are document 01's
+pub read-as-before : (t : Tree part) {text : List ℕ} → Spells t text → (price : ℕ → ℕ)
+    → recordRows (layout price t) ≡ earlier.recordRows earlier.document01 (layout price t)
+read-as-before t spells price =
+    let range = spells-in-range spells in
+    records-same earlier.document01 (layout price t) (free-same (layout price t) (layout-unlocked price t range) (layout-free price t range))
