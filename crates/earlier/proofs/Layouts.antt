@@ -7,9 +7,10 @@ use native.Mathlib.Omega.{arith}
 use lib.Dec.{ltb}
 use lib.ListN.{drop}
 use borrow.Author.Tests.{eqb-false, ltb-true, ltb-false}
+use Rattle.lists.proofs.Pieces.{after-list}
 use Rattle.outline.specs.Outline.{size, first, price, plateField, isTaxon, recordBytes}
 use Rattle.diversity.specs.Headings.{FreeHeadings}
-use Rattle.records.proofs.Records.{record-length, after-list, fields-back}
+use Rattle.records.proofs.Records.{record-length, fields-back}
 use Rattle.newick.specs.Grammar.{Kind, part, Tree}
 use Rattle.newick.specs.Layout.{count, rows, layout}
 use Rattle.newick.specs.Inner.{InRange, taxon-in, group-in, last-in, more-in}

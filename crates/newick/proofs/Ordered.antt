@@ -6,6 +6,7 @@ use mathlib.Core.List.{List, [], ◌∷◌, ◌++◌, append_assoc, append-nil}
 use native.Mathlib.Omega.{arith}
 use lib.ListN.{length, drop, drop_of_length-le}
 use borrow.Author.Tests.{eqb-true}
+use Rattle.lists.proofs.Numbered.{Numbered, numbered-next, numbered-from, numbered-both}
 use Rattle.lists.specs.Lists.{from, Bytes}
 use Rattle.outline.specs.Outline.{size, records, next, first, branch, price, plateField, plate, isTaxon, recordBytes, IsRecord}
 use Rattle.diversity.specs.Order.{InTextOrder}
@@ -16,23 +17,6 @@ use Rattle.newick.specs.Trees.{treeOf}
 use Rattle.newick.proofs.Plain.{Plain, heading-free, field-plate}
 use Rattle.records.proofs.Records.{record-split}
 use Rattle.newick.proofs.Traced.{Traced, taxon-at, group-at, last-at, more-at, tree-traced, traced-here, traced-count}
-
--- records numbered as they come, from k on
-data Numbered : ℕ → List ℕ → Type 0 where
-  none : {k : ℕ} → Numbered k []
-  then : {k : ℕ} {rs : List ℕ} → Numbered (k + 1) rs → Numbered k (k ∷ rs)
-
-numbered-from : (k n : ℕ) → Numbered k (from k n)
-unfolding from
-numbered-from k zero = none
-numbered-from k (suc n) = then (numbered-from (k + 1) n)
-
-numbered-both : {k : ℕ} (rs qs : List ℕ) → Numbered k (rs ++ qs) → Numbered k rs × Numbered (k + length rs) qs
-numbered-both {k} [] qs h = let e : k ≡ k + 0 = omega arith in (none, subst (λ j. Numbered j qs) e h)
-numbered-both (r ∷ rs) qs (then h) =
-    let both = numbered-both {k = r + 1} rs qs h in
-    let e : r + 1 + length rs ≡ r + suc (length rs) = omega arith in
-    (then both.0, subst (λ j. Numbered j qs) e both.1)
 
 -- what a part's record names next; a chain has nothing after it
 abbrev nextOf : Kind → List ℕ → ℕ → ℕ
@@ -48,7 +32,7 @@ module _ {o : List ℕ} (plain : Plain o) (small : Bytes o) (cost : ℕ → ℕ)
   rowed : {κ : Kind} {t : Tree κ} {r k : ℕ} {rs : List ℕ} → Traced o κ t r rs → Numbered k rs
       → (k ≡ r) × (drop (16 * (r - 1)) o ≡ rows cost t r (nextOf κ o r) ++ drop (16 * (r - 1 + count t)) o)
   unfolding rows
-  rowed {r = r} (taxon-at i e) (then h) =
+  rowed {r = r} (taxon-at i e) (numbered-next h) =
       let z = eqb-true (first o r) 0 e in
       let l = i.low in
       let after : 16 * r ≡ 16 * (r - 1 + 1) = omega arith in (
@@ -56,7 +40,7 @@ module _ {o : List ℕ} (plain : Plain o) (small : Bytes o) (cost : ℕ → ℕ)
         record-split o small r i ∙ ap (λ x. recordBytes (next o r) (first o r) (branch o r) (price o r) x ++ drop (16 * r) o) (field-plate plain r i small e)
             ∙ rw (z, priced r i e, after),
       )
-  rowed {r = r} (group-at {ms = ms} i e x) (then h) =
+  rowed {r = r} (group-at {ms = ms} i e x) (numbered-next h) =
       let (first-is, members) = rowed x h in
       let l = i.low in
       let end = 16 * (r - 1 + (count ms + 1)) in

@@ -9,6 +9,7 @@ use native.Mathlib.Omega.{arith}
 use lib.Dec.{eqb}
 use lib.ListN.{length}
 use borrow.Author.Tests.{eqb-true, eqb-false, eq-eqb, ne_eqb, le-ltb, lt-leb}
+use Rattle.lists.proofs.Numbered.{Numbered, numbered-next, numbered-from, numbered-both}
 use Rattle.lists.specs.Lists.{one, from, anywhere, total}
 use Rattle.lists.proofs.Bools.{eqb-comm}
 use Rattle.lists.proofs.Walk.{anywhere-none, nowhere-both}
@@ -23,23 +24,6 @@ use Rattle.newick.proofs.Regrown.{Regrown, layout-regrown}
 use Rattle.newick.proofs.Traced.{Traced, taxon-at, group-at, last-at, more-at, traced-count}
 use Rattle.reading.proofs.Answers.{layout-size}
 
--- records numbered as they come, from k on
-data Numbered : ℕ → List ℕ → Type 0 where
-  none : {k : ℕ} → Numbered k []
-  and-then : {k : ℕ} {rs : List ℕ} → Numbered (k + 1) rs → Numbered k (k ∷ rs)
-
-numbered-from : (k n : ℕ) → Numbered k (from k n)
-unfolding from
-numbered-from k zero = none
-numbered-from k (suc n) = and-then (numbered-from (k + 1) n)
-
-numbered-both : {k : ℕ} (rs qs : List ℕ) → Numbered k (rs ++ qs) → Numbered k rs × Numbered (k + length rs) qs
-numbered-both {k} [] qs h = let e : k ≡ k + 0 = omega arith in (none, subst (λ j. Numbered j qs) e h)
-numbered-both (r ∷ rs) qs (and-then h) =
-    let both = numbered-both {k = r + 1} rs qs h in
-    let e : r + 1 + length rs ≡ r + suc (length rs) = omega arith in
-    (and-then both.0, subst (λ j. Numbered j qs) e both.1)
-
 module _ (o : List ℕ) where
   -- a link that is none, and one to a later record
   nowhere : (r link : ℕ) → link ≡ 0 → stray o r link ≡ false
@@ -53,8 +37,8 @@ module _ (o : List ℕ) where
 
   -- a part or a chain begins with the first of its records
   begins : {κ : Kind} {t : Tree κ} {r k : ℕ} {rs : List ℕ} → Traced o κ t r rs → Numbered k rs → (r ≡ k) × IsRecord o r
-  begins (taxon-at i e) (and-then h) = (refl, i)
-  begins (group-at i e x) (and-then h) = (refl, i)
+  begins (taxon-at i e) (numbered-next h) = (refl, i)
+  begins (group-at i e x) (numbered-next h) = (refl, i)
   begins (last-at e x) h = begins x h
   begins (more-at {rs = rs} {qs = qs} e x y) h = begins x (numbered-both rs qs h).0
 
@@ -67,7 +51,7 @@ module _ (o : List ℕ) where
   straight : {κ : Kind} {t : Tree κ} {r k : ℕ} {rs : List ℕ} → Traced o κ t r rs → Numbered k rs → Goes κ r → anywhere strays rs ≡ false
   unfolding anywhere
   straight {r = r} (taxon-at i e) h g = rw (g, nowhere r (first o r) (eqb-true (first o r) 0 e))
-  straight {r = r} (group-at i e x) (and-then h) g =
+  straight {r = r} (group-at i e x) (numbered-next h) g =
       let (is, at) = begins x h in
       rw (g, onward r (first o r) (omega arith) at.high) (straight x h refl)
   straight {r = r} (last-at e x) h g = straight x h (nowhere r (next o r) e)
@@ -105,7 +89,7 @@ layout-linked cost t range few r l u =
     o : List ℕ
     o = layout cost t
 
-    grown : Regrown o part t 1 0
+    grown : Regrown cost o part t 1 0
     grown = layout-regrown cost t range few
 
     go : (b : Bool) → eqb r 1 ≡ b → (if b then not (eqb (next o r) 0) else not (eqb (named o r) 1)) ≡ false
