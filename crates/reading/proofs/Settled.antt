@@ -40,7 +40,7 @@ price-small (q ∷ (c ∷ rest)) h p = go (eqb q p) (price-small rest (record { 
     go false k = k
 
 -- a taxon's plate is among those of the records from k on
-plate-in : (o : List ℕ) (n k r : ℕ) → k ≤ r → r < k + n → isTaxon o r ≡ true → In (plate o r) (platesIn o (from k n))
+pub plate-in : (o : List ℕ) (n k r : ℕ) → k ≤ r → r < k + n → isTaxon o r ≡ true → In (plate o r) (platesIn o (from k n))
 unfolding from platesIn
 plate-in o zero k r low high e = absurd (omega arith)
 plate-in o (suc n) k r low high e = go (eqb k r) refl (isTaxon o k) refl (λ h. plate-in o n (k + 1) r h (omega arith) e)

@@ -6,4 +6,5 @@ pub mod Canonical
 pub mod Demands
 pub mod OwnBytes
 pub mod Priced
+pub mod Reread
 pub mod RoundTrip

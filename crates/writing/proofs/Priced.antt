@@ -122,7 +122,7 @@ module _ (o : List ℕ) (formed : WellFormed o) where
             absurd (eqb-false r q f (sym same))
         go false f false g = refl
 
-    held-once : total (λ q. one (hasPlate o (plate o r) q)) (clade o 1) ≡ 1
+    pub held-once : total (λ q. one (hasPlate o (plate o r) q)) (clade o 1) ≡ 1
     unfolding records
     held-once =
         total-root o formed.linked (λ q. one (hasPlate o (plate o r) q))
@@ -144,6 +144,12 @@ module _ (o : List ℕ) (formed : WellFormed o) where
   pub pairs-tree : paired (outlinePairs o) ≡ plates (treeOf o)
   unfolding outlinePairs
   pairs-tree = pairs-plates o (clade o 1) ∙ sym (traced-plates (tree-traced o formed.linked))
+
+  -- a plate of the tree is that of a taxon
+  pub plate-owner : (p : ℕ) → In p (plates (treeOf o)) → (r : ℕ) × IsRecord o r × (isTaxon o r ≡ true) × (plate o r ≡ p)
+  plate-owner p i =
+      let (r, h, e, f) = plate-of o p (clade o 1) (subst (In p) (traced-plates (tree-traced o formed.linked)) i) in
+      (r, inside r h, e, f)
 
   -- there are twice as many numbers as taxa
   pub pairs-count : length (outlinePairs o) ≡ 2 * taxa o

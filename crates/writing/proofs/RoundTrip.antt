@@ -26,6 +26,7 @@ use Rattle.newick.specs.Layout.{count, layout}
 use Rattle.newick.specs.Pairs.{priceIn}
 use Rattle.newick.specs.Parsing.{tree, parsed}
 use Rattle.reading.proofs.Settled.{layout-settled}
+use Rattle.writing.proofs.Reread.{regrown-passes}
 use Rattle.writing.specs.Text.{outlineText, outlinePairs}
 use Rattle.newick.specs.Trees.{treeOf}
 use Rattle.writing.specs.Answer.{Call, Figures, judged, Answered}
@@ -104,6 +105,29 @@ same-tree {c} x z {d} h y e =
       back.records-are ∙ ap (λ (t : Tree part). count t) (sym same) ∙ traced-count (tree-traced c.outline linked) ∙ clade-size c.outline linked,
       read-tree d y e (treeOf c.outline) spelled,
     )
+
+-- and it is read, where the buffer suffices
+pub written-accepted : {c : Call} {r : Reply Figures} {text pairs : List ℕ} → Answered c r text pairs → r.number ≡ 0
+    → {d : read.Call} {s : Reply read.Figures} {outline : List ℕ} → Handed r text pairs d → length c.outline ≤ length d.outline → read.Answered d s outline
+    → (s.number ≡ 0) × (s.figures.records ≡ size c.outline) × (treeOf (take (16 * s.figures.records) outline) ≡ treeOf c.outline)
+unfolding read.rowsFor read.judged read.reply
+written-accepted {c} x z {d} {s} h long y =
+    let o = c.outline in
+    let written = text-given c x z in
+    let plain = judged-plain c (sym (number-is c x) ∙ z) in
+    let spelled : Spells (treeOf o) d.text = rw h.text-is written.spelled in
+    let some = traced-count (tree-traced o plain.formed.linked) ∙ clade-size o plain.formed.linked in
+    let none : read.rowsFor (tree (treeOf o)) (outlinePairs o) (length d.outline) ≡ passed =
+    rw (
+      le-ltb mostRecords (count (treeOf o)) (omega (arith, some, plain.formed.size-most)),
+      pairs-good o plain.formed,
+      le-ltb (length d.outline) (16 * count (treeOf o)) (omega (arith, some, plain.formed.whole)),
+    ) (regrown-passes o plain) in
+    let read-it : s.number ≡ 0 =
+    ap (λ (a : Reply read.Figures). a.number) y.told-reply
+    ∙ rw (parsed-complete (treeOf o) d.text spelled, h.pairs-are ∙ written.pairs-are, none) in
+    let same = same-tree x z h y read-it in
+    (read-it, same.0, same.1)
 
 -- ---- what is read from an accepted text
 module _ {c : read.Call} {r : Reply read.Figures} {outline : List ℕ} (x : read.Answered c r outline) (z : r.number ≡ 0) where
