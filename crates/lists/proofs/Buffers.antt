@@ -89,6 +89,3 @@ module _ {text buffer now : List ℕ} {i : ℕ} (h : Falling text buffer now i) 
         rw (before, e, ← over-at text buffer (i - 1) (omega (arith, h.most)))
         (one-down buffer (over text buffer) (i - 1) inside (rw (over-long text buffer h.fits) inside));
   }
-
-pub falling-ends : {text buffer now : List ℕ} → Falling text buffer now 0 → now ≡ over text buffer
-falling-ends h = h.whole

@@ -1,13 +1,13 @@
 -- An outline whose records stand in text order is the layout of its own tree.
-use Prim.Native.Nat.{ℕ, zero, suc, ◌+◌, ◌*◌, ◌-◌}
+use Prim.Native.Nat.{ℕ, ◌+◌, ◌*◌, ◌-◌}
 use mathlib.Core.Path.{◌≡◌, refl, sym, ap, ap₂, subst, ◌∙◌}
 use mathlib.Core.Bool.{true}
-use mathlib.Core.List.{List, [], ◌∷◌, ◌++◌, append_assoc, append-nil}
+use mathlib.Core.List.{List, [], ◌++◌, append_assoc, append-nil}
 use native.Mathlib.Omega.{arith}
-use lib.ListN.{length, drop, drop_of_length-le}
+use lib.ListN.{drop, drop_of_length-le}
 use borrow.Author.Tests.{eqb-true}
 use Rattle.lists.proofs.Numbered.{Numbered, numbered-next, numbered-from, numbered-both}
-use Rattle.lists.specs.Lists.{from, Bytes}
+use Rattle.lists.specs.Lists.{Bytes}
 use Rattle.outline.specs.Outline.{size, records, next, first, branch, price, plateField, plate, isTaxon, recordBytes, IsRecord}
 use Rattle.diversity.specs.Order.{InTextOrder}
 use Rattle.laws.proofs.Chains.{clade-size}

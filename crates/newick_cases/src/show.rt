@@ -4,8 +4,7 @@ ghost use Rattle.outline.specs.Outline.{IsRecord};
 
 use super::texts::{Pairs, Text, first_bytes, first_numbers};
 use outline::fields::{branch_of, first_of, next_of, plate_of, price_of};
-use reading::read;
-use reading::Answer;
+use reading::{Answer, read};
 use samples::words::{Output, say, say_number, say_pair, say_refusal};
 use std::num::wrapping_add_usize;
 

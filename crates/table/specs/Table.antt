@@ -1,5 +1,5 @@
 -- The table: where its rows stand, what is asked before a row is pushed or spread, and what is there afterwards.
-use Rattle.std.specs.Prelude.{if◌then◌else◌, ℕ, ◌+◌, ◌*◌, ◌-◌, ◌<◌, ◌≤◌, ◌≡◌, ◌⊎◌, Bool, true, false, List, eqb, ltb, length}
+use Rattle.std.specs.Prelude.{if◌then◌else◌, ℕ, ◌+◌, ◌*◌, ◌-◌, ◌<◌, ◌≤◌, ◌≡◌, Bool, true, false, List, eqb, ltb, length}
 use Rattle.outline.specs.Outline.{size, branch, price, isTaxon}
 use Rattle.outline.specs.WellFormed.{WellFormed}
 use Rattle.laws.specs.Candidate.{Value, nothingWorth, Cand, none, some, betterOf}

@@ -1,13 +1,11 @@
 // The line that is printed for a call.
 ghost use Rattle.std.specs.Prelude.{◌≤◌};
 
-use reading::read;
-use reading::Answer as Reading;
+use reading::{Answer as Reading, read};
 use samples::outlines::{Buffer, first_bytes};
 use samples::words::{Output, say, say_number, say_pair, say_refusal};
 use std::num::wrapping_add_usize;
-use writing::write;
-use writing::Answer;
+use writing::{Answer, write};
 
 // What each byte of the text's buffer and each number of the pairs' holds before a call.
 const BYTE: u8 = 170;
