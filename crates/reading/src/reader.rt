@@ -1,6 +1,5 @@
 // Reading a text: the tree, and the outline that is made of it.
 ghost use Rattle.std.specs.Prelude.{◌≡◌, ◌≤◌, length};
-ghost use Rattle.lists.specs.Lists.{over};
 ghost use Rattle.newick.specs.Grammar.{mostBytes};
 ghost use Rattle.reading.specs.Answer.{call, told, Answered};
 ghost use Rattle.reading.specs.Inner.{draftSize, TreeRead, Whole, Placed};
@@ -13,6 +12,7 @@ use super::record::{DRAFT, draft_record};
 use super::scan::{ends_at, is_tree};
 use outline::checker::check_records;
 use refusals::verdict::{Refusal, Verdict};
+use text::put_text;
 
 const MOST_BYTES: usize = 16384;
 
@@ -48,18 +48,6 @@ fn read_tree(text: &[u8], pairs: &[u32], draft: &mut [u8]) -> Draft
     }
 }
 
-// Copies an outline to the beginning of a buffer.
-fn copy(outline: &mut [u8], o: &[u8])
-    requires { length o.now ≤ length outline.old }
-    ensures { outline.new ≡ over o.now outline.old }
-{
-    let mut i = 0;
-    while i < o.len() {
-        outline[i] = o[i];
-        i += 1;
-    }
-}
-
 // Judges a drafted outline, and writes it where no row holds.
 fn place(o: &[u8], pairs: &[u32], outline: &mut [u8]) -> Answer
     requires { Whole o.now }
@@ -74,7 +62,7 @@ fn place(o: &[u8], pairs: &[u32], outline: &mut [u8]) -> Answer
     match check_records(o) {
         Verdict::Refused(refusal) => Answer::Refused(refusal),
         Verdict::Accepted => {
-            copy(outline, o);
+            put_text(outline, 0, o);
             Answer::Read {
                 records: o.len() / 16,
             }

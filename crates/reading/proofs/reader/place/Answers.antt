@@ -1,5 +1,6 @@
 -- `reading::reader::place` meets its contract: each way out is a row, or none holds.
 use Rattle.std.proofs.Common.{sym, ◌∙◌}
+use Rattle.lists.specs.Lists.{over, overAt}
 use Rattle.reading.proofs.Answers.{placed-bad, placed-short, placed-refused, placed-read}
 use Rattle.reading.proofs.reader.place.Goals as goal
 
@@ -15,6 +16,7 @@ returns-in-Refused c =
     c.check_records.ensures c.in-Refused.is
 
 pub returns-in-Accepted : goal.returns-in-Accepted
+unfolding over overAt
 returns-in-Accepted c =
     placed-read _ _ _ (sym c.bad_pairs.ensures ∙ c.if-bad_pairs.false) c.if-outline-o.false c.check_records.ensures
-    c.in-Accepted.is c.copy.ensures
+    c.in-Accepted.is c.put_text.ensures.buffer-is
