@@ -1,8 +1,8 @@
 -- What a call keeps that no row of the table refuses, and the two ways to answer it.
 use Prim.Native.Nat.{ℕ, ◌≤◌}
-use mathlib.Core.Path.{◌≡◌, refl, sym, ◌∙◌}
-use mathlib.Core.Logic.{◌⊎◌, inl, inr}
-use mathlib.Core.Bool.{Bool, true, false, ◌&&◌, not, false≢true}
+use mathlib.Core.Path.{◌≡◌, sym, ◌∙◌}
+use mathlib.Core.Logic.{◌⊎◌}
+use mathlib.Core.Bool.{true, false, ◌&&◌, not}
 use mathlib.Core.List.{List, ◌++◌}
 use native.Mathlib.Omega.{arith}
 use lib.Dec.{eqb}
@@ -13,6 +13,7 @@ use Rattle.lists.specs.Lists.{over}
 use Rattle.lists.proofs.Bools.{both-false}
 use Rattle.refusals.specs.Refusals.{refusal}
 use Rattle.refusals.specs.declared.verdict.Refusal.{Refusal}
+use Rattle.refusals.proofs.Tables.{two-ways}
 use Rattle.refusals.proofs.Refusals.{both-pass, row-fails, refusal-not-zero}
 use Rattle.outline.specs.Answer.{sizeRows, recordRows, checked}
 use Rattle.outline.proofs.WellFormed.{rows-kept}
@@ -51,12 +52,7 @@ module _ (c : Call) where
       }
 
   pub way-known : isSelected c ≡ true → (c.way ≡ 0) ⊎ (c.way ≡ 1)
-  way-known e = go (eqb c.way 0) refl (eqb c.way 1) refl (rows-pass e).ways
-    where
-      go : (a : Bool) → eqb c.way 0 ≡ a → (b : Bool) → eqb c.way 1 ≡ b → (not a && not b) ≡ false → (c.way ≡ 0) ⊎ (c.way ≡ 1)
-      go true p b q h = inl (eqb-true _ _ p)
-      go false p true q h = inr (eqb-true _ _ q)
-      go false p false q h = absurd (false≢true (sym h))
+  way-known e = two-ways c.way (rows-pass e).ways
 
   -- the check accepts its outline
   pub selected-accepted : isSelected c ≡ true → (checked c.outline).number ≡ 0

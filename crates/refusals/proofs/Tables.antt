@@ -2,12 +2,12 @@
 use Rattle.std.specs.Prelude.{if◌then◌else◌}
 use Prim.Native.Nat.{ℕ, suc}
 use mathlib.Core.Path.{◌≡◌, refl, sym, ◌∙◌}
-use mathlib.Core.Logic.{◌≢◌}
+use mathlib.Core.Logic.{◌≢◌, ◌⊎◌, inl, inr}
 use mathlib.Core.Bool.{Bool, true, false, ◌&&◌, not, false≢true}
 use mathlib.Core.List.{List, [], ◌∷◌, ◌++◌}
 use native.Mathlib.Omega.{arith}
 use lib.Dec.{eqb, ltb}
-use borrow.Author.Tests.{ne_eqb, ltb-true, ltb-false}
+use borrow.Author.Tests.{ne_eqb, eqb-true, ltb-true, ltb-false}
 use Rattle.lists.proofs.Walk.{Lowest, none, here as lowest-here, lowest-from}
 use Rattle.refusals.specs.Refusals.{Ruling, ruling, passed, row, rowAt, ◌▸◌}
 use Rattle.refusals.specs.Table.{LowestAt, Row, whole, lowestAt, NoRow, end, fails, FirstRow, here, later, Gives, gives-none, gives-first}
@@ -82,3 +82,12 @@ gives-lowest n size holds = go (lowest-from holds 1 size)
 -- the row of every entry point that takes a way of counting
 pub gives-way : (way : ℕ) → Gives (whole 1 ((way ≢ 0) × (way ≢ 1)) ∷ []) (row 1 (not (eqb way 0) && not (eqb way 1)))
 gives-way way = gives-whole 0 (decides-both (decides-not (decides-equal way 0)) (decides-not (decides-equal way 1)))
+
+-- and where that row does not hold, the way is one of the two
+pub two-ways : (way : ℕ) → (not (eqb way 0) && not (eqb way 1)) ≡ false → (way ≡ 0) ⊎ (way ≡ 1)
+two-ways way = go (eqb way 0) refl (eqb way 1) refl
+  where
+    go : (a : Bool) → eqb way 0 ≡ a → (b : Bool) → eqb way 1 ≡ b → (not a && not b) ≡ false → (way ≡ 0) ⊎ (way ≡ 1)
+    go true p b q h = inl (eqb-true _ _ p)
+    go false p true q h = inr (eqb-true _ _ q)
+    go false p false q h = absurd (false≢true (sym h))

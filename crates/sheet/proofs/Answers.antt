@@ -14,6 +14,7 @@ use Rattle.lists.proofs.Bools.{both-false}
 use Rattle.lists.proofs.Walk.{lowest-none}
 use Rattle.refusals.specs.Refusals.{refusal, rowAt}
 use Rattle.refusals.specs.declared.verdict.Refusal.{Refusal}
+use Rattle.refusals.proofs.Tables.{two-ways}
 use Rattle.refusals.proofs.Refusals.{both-pass, row-fails, row-at-fails, refusal-not-zero}
 use Rattle.outline.specs.Outline.{size, isTaxon}
 use Rattle.outline.specs.Answer.{checked}
@@ -60,12 +61,7 @@ module _ (c : Call) where
   -- no row of the table holds
   module _ (z : (judged c).number ≡ 0) where
     pub way-known : (c.way ≡ 0) ⊎ (c.way ≡ 1)
-    way-known = go (eqb c.way 0) refl (eqb c.way 1) refl (rows-pass z).ways
-      where
-        go : (a : Bool) → eqb c.way 0 ≡ a → (b : Bool) → eqb c.way 1 ≡ b → (not a && not b) ≡ false → (c.way ≡ 0) ⊎ (c.way ≡ 1)
-        go true p b q h = inl (eqb-true _ _ p)
-        go false p true q h = inr (eqb-true _ _ q)
-        go false p false q h = absurd (false≢true (sym h))
+    way-known = two-ways c.way (rows-pass z).ways
 
     pub outline-accepted : (checked c.outline).number ≡ 0
     outline-accepted = (rows-pass z).accepted
