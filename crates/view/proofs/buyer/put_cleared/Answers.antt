@@ -1,5 +1,4 @@
 -- `view::buyer::put_cleared` meets its contract: the record's own fields are written, but for its price and its lock.
-use Rattle.std.proofs.Common.{rules}
 use Rattle.view.specs.View.{buyerRecord}
 use Rattle.view.proofs.Cleared.{record-fits}
 use Rattle.view.proofs.buyer.put_cleared.Goals as goal
@@ -9,4 +8,5 @@ put_record-requires c = record-fits c.requires _ _ _ _ _
 
 pub returns : goal.returns
 unfolding buyerRecord
-returns c = search rules
+returns c =
+    rw (← c.next_of-next.ensures, ← c.first_of-first.ensures, ← c.branch_of-branch.ensures, ← c.plate_of-plate.ensures) c.put_record.ensures

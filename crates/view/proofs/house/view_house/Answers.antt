@@ -1,8 +1,9 @@
 -- `view::house::view_house` meets its contract: a refusal of the table, or the outline's bytes.
-use Rattle.std.proofs.Common.{arith, rules, sym, ap}
+use Rattle.std.proofs.Common.{arith, sym, ap}
 use Rattle.lists.specs.Lists.{over, overAt}
 use Rattle.refusals.specs.Refusals.{Ruling}
 use Rattle.view.specs.Answer.{call}
+use Rattle.view.specs.View.{houseView}
 use Rattle.view.proofs.Answers.{outline-formed, view-suffices, shown-answered, refused-answered}
 use Rattle.view.proofs.house.view_house.Goals as goal
 
@@ -13,8 +14,8 @@ put_text-requires c =
     omega (arith, view-suffices d z, (outline-formed d z).whole)
 
 pub returns-in-Refused : goal.returns-in-Refused
-returns-in-Refused c = search (rules, refused-answered)
+returns-in-Refused c = refused-answered _ houseView c.in-Refused.refusal c.in-Refused.ensures
 
 pub returns-in-Accepted : goal.returns-in-Accepted
 unfolding over overAt
-returns-in-Accepted c = search (rules, shown-answered)
+returns-in-Accepted c = shown-answered _ houseView c.in-Accepted.ensures c.put_text.ensures.buffer-is
