@@ -1,4 +1,4 @@
 -- Laws of candidates in two words, and of rows that are written.
 pub mod ByPrice
 pub mod Words
-pub mod Written
+pub mod RowWritten

@@ -18,7 +18,7 @@ pub record Put (k : ℕ) (c : Cand) (l m : List ℕ) : Type 0 where
   pub same : (j : ℕ) → j ≢ k → cell m j ≡ cell l j
 
 -- m is l with the columns from lo up to hi of the row x written to the row that begins at a cell
-pub record Written (to lo hi : ℕ) (x : Row) (l m : List ℕ) : Type 0 where
+pub record RowWritten (to lo hi : ℕ) (x : Row) (l m : List ℕ) : Type 0 where
   pub row : (b : ℕ) → lo ≤ b → b < hi → cell m (to + b) ≡ x b
   pub same : (k : ℕ) → (to + lo ≤ k → to + hi ≤ k) → cell m k ≡ cell l k
 
@@ -58,20 +58,20 @@ chargeOver x branch price y b = betterOf (joinFrom (some (heading branch price))
 -- the heading on, or all of it in place; and one below groups that cost `above`, joined with the better of two or else a third,
 -- from a cost on
 abbrev pub BetteringBy : ℕ → Cand → ℕ → ℕ → List ℕ → List ℕ → Type 0
-BetteringBy to c lo hi l m = Written to lo hi (λ b. betterOf (cell l (to + b)) c) l m
+BetteringBy to c lo hi l m = RowWritten to lo hi (λ b. betterOf (cell l (to + b)) c) l m
 
 abbrev pub Bettering : ℕ → ℕ → ℕ → ℕ → List ℕ → List ℕ → Type 0
-Bettering to x y w l m = Written to 0 w (betterRow (rowAt l x) (rowAt l y)) l m
+Bettering to x y w l m = RowWritten to 0 w (betterRow (rowAt l x) (rowAt l y)) l m
 
 abbrev pub ChargingFrom : ℕ → ℕ → ℕ → ℕ → ℕ → ℕ → List ℕ → List ℕ → Type 0
-ChargingFrom to x branch price y w l m = Written to price w (chargeOver (rowAt l x) branch price (rowAt l y)) l m
+ChargingFrom to x branch price y w l m = RowWritten to price w (chargeOver (rowAt l x) branch price (rowAt l y)) l m
 
 abbrev pub Charging : ℕ → ℕ → ℕ → ℕ → ℕ → List ℕ → List ℕ → Type 0
-Charging to branch price y w l m = Written to 0 w (chargeOver (rowAt l to) branch price (rowAt l y)) l m
+Charging to branch price y w l m = RowWritten to 0 w (chargeOver (rowAt l to) branch price (rowAt l y)) l m
 
 abbrev pub Joining : ℕ → ℕ → ℕ → ℕ → ℕ → ℕ → ℕ → ℕ → List ℕ → List ℕ → Type 0
 Joining to own above cost x y z w l m =
-    Written to cost w (λ b. joinOver (chargeOf (cell l (own + b)) 0 above) cost (rowAt l x) (rowAt l y) (rowAt l z) b) l m
+    RowWritten to cost w (λ b. joinOver (chargeOf (cell l (own + b)) 0 above) cost (rowAt l x) (rowAt l y) (rowAt l z) b) l m
 
 -- l has a row of w columns at a, which is not overtaken while the row at `to` is written from right to left
 pub record ReadsBack (l : List ℕ) (to a w : ℕ) : Type 0 where

@@ -2,7 +2,7 @@
 ghost use Rattle.std.specs.Prelude.{◌≡◌, ◌+◌, ◌*◌, ◌<◌, ◌≤◌, min, length};
 ghost use Rattle.laws.specs.Candidate.{none, betterOf};
 ghost use Rattle.cells.specs.Cells.{view, cell};
-ghost use Rattle.cells.specs.Memory.{rowAt, Put, Written, Betters, Bettering, BetteringBy, ChargesFrom, ChargingFrom};
+ghost use Rattle.cells.specs.Memory.{rowAt, Put, RowWritten, Betters, Bettering, BetteringBy, ChargesFrom, ChargingFrom};
 ghost use Rattle.cells.specs.Memory.{Charges, Charging, Follows, Joins, Joining, Adds};
 
 use super::candidate::Candidate;
@@ -44,7 +44,7 @@ fn put(work: &mut [u64], at: usize, c: Candidate)
 // Makes every column of a row from lo up to hi one candidate.
 pub fn fill_row(work: &mut [u64], to: usize, c: Candidate, lo: usize, hi: usize)
     requires { 2 * (to + hi) ≤ length work.old }
-    ensures { Written to lo hi (λ _. view c) work.old work.new }
+    ensures { RowWritten to lo hi (λ _. view c) work.old work.new }
 {
     let mut b = lo;
     while b < hi {
@@ -169,7 +169,7 @@ pub fn join_row(
 // Adds another row to one that has nothing chosen in any column: what the two have together is what the other has.
 pub fn add_row(work: &mut [u64], to: usize, y: usize, width: usize)
     requires { Adds work.old to y width }
-    ensures { Written to 0 width (rowAt work.old y) work.old work.new }
+    ensures { RowWritten to 0 width (rowAt work.old y) work.old work.new }
 {
     let mut b = 0;
     while b < width {

@@ -8,4 +8,4 @@ pub mod Signs
 pub mod Spelling
 pub mod Tokens
 pub mod Traced
-pub mod Written
+pub mod WordsWritten

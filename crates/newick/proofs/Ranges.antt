@@ -7,7 +7,7 @@ use lib.ListN.{length}
 use Rattle.newick.specs.Grammar.{Kind, part, Tree, Word, opening, closing, comma, colon, semicolon, number, mostNumber}
 use Rattle.newick.specs.Grammar.{Length, no-length, a-length, Spelled, a-taxon, a-group, the-last, one-more, Spells}
 use Rattle.newick.specs.Grammar.{Mark, opening-bracket, closing-bracket, a-comma, a-colon, a-semicolon, Digits, no-digits, a-digit}
-use Rattle.newick.specs.Grammar.{Written, nothing, after-blank, after-mark, after-number}
+use Rattle.newick.specs.Grammar.{WordsWritten, nothing, after-blank, after-mark, after-number}
 use Rattle.newick.specs.Inner.{InRange, taxon-in, group-in, last-in, more-in}
 
 -- a number with n nines after it
@@ -49,7 +49,7 @@ mark-fits a-colon = refl
 mark-fits a-semicolon = refl
 
 -- words that are written are not over it
-written-fits : {ws : List Word} {s : List ℕ} → Written ws s → excess ws ≡ 0
+written-fits : {ws : List Word} {s : List ℕ} → WordsWritten ws s → excess ws ≡ 0
 unfolding excess nines
 written-fits nothing = refl
 written-fits (after-blank b r) = written-fits r

@@ -14,7 +14,7 @@ use Rattle.newick.specs.Parsing.{tokensOf, Outcome, failed, got, withNumber, wit
 use Rattle.newick.specs.Parsing.{chainFrom, readIn, nothing, ends, closed, Parsed, unread, tree, grown, parsed}
 use Rattle.newick.specs.declared.token.Token.{Token}
 use Rattle.newick.proofs.Tokens.{by-first}
-use Rattle.newick.proofs.Written.{tokenFor, tokensFor, words-written, written-words, written-length}
+use Rattle.newick.proofs.WordsWritten.{tokenFor, tokensFor, words-written, written-words, written-length}
 
 -- ---- a tree that is read is spelled by the words that are read
 

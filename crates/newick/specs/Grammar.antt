@@ -70,12 +70,12 @@ mostNumber = 999999999
 
 -- words written as a text: blanks may stand anywhere but inside a number, and a number has 1 to 9 digits, which are all that
 -- stand side by side
-pub data Written : List Word → List ℕ → Type 0 where
-  nothing : Written [] []
-  after-blank : {b : ℕ} {ws : List Word} {s : List ℕ} → Blank b → Written ws s → Written ws (b ∷ s)
-  after-mark : {w : Word} {b : ℕ} {ws : List Word} {s : List ℕ} → Mark w b → Written ws s → Written (w ∷ ws) (b ∷ s)
+pub data WordsWritten : List Word → List ℕ → Type 0 where
+  nothing : WordsWritten [] []
+  after-blank : {b : ℕ} {ws : List Word} {s : List ℕ} → Blank b → WordsWritten ws s → WordsWritten ws (b ∷ s)
+  after-mark : {w : Word} {b : ℕ} {ws : List Word} {s : List ℕ} → Mark w b → WordsWritten ws s → WordsWritten (w ∷ ws) (b ∷ s)
   after-number : {v : ℕ} {ds : List ℕ} {ws : List Word} {s : List ℕ} → Digits 0 ds v → 1 ≤ length ds → length ds ≤ mostDigits → NoDigit s
-      → Written ws s → Written (number v ∷ ws) (ds ++ s)
+      → WordsWritten ws s → WordsWritten (number v ∷ ws) (ds ++ s)
 
 -- a text has at most so many bytes
 abbrev pub mostBytes : ℕ
@@ -86,4 +86,4 @@ pub record Spells (t : Tree part) (text : List ℕ) : Type 0 where
   pub short : length text ≤ mostBytes
   pub words : List Word
   pub spelled : Spelled part t words
-  pub written : Written (words ++ (semicolon ∷ [])) text
+  pub written : WordsWritten (words ++ (semicolon ∷ [])) text

@@ -21,7 +21,7 @@ use Rattle.sheet.proofs.Demands.{demand-1 as sheet-decided, choice-listed}
 use Rattle.refusals.specs.Refusals.{Ruling}
 use Rattle.refusals.specs.Reply.{granted}
 use Rattle.view.specs.Answer as view
-use Rattle.view.specs.Demands.{ShownOrRefused, BuyersCalls, HasRoom as ViewHasRoom, SameBytes}
+use Rattle.view.specs.Demands.{ShownOrRefused, BuyersCalls, ViewSuffices, SameBytes}
 use Rattle.view.specs.View.{buyerView}
 use Rattle.view.proofs.Demands.{demand-1 as view-decided, buyers-alike, buyers-alike-whole}
 use Rattle.plates.specs.Interface.{chosenIn, Chosen, listedIn, SheetListed, readIn, TextRead, writtenIn, TextWritten, rulingIn, Viewed}
@@ -73,7 +73,7 @@ written-again x z ret y e h long p ret' room y' =
 
 -- a choice's marks are accepted as they are, and the sums are the choice's cost and diversity
 pub chosen-listed : {c : choose.Call} {d : sheet.Call} {n m : ℕ} {answer marks curve work answer' lent : List ℕ}
-    → Chosen c n answer marks curve work → n ≡ 0 → sheets.Handed c (chosenIn answer) marks d → SheetListed d m answer' lent
+    → Chosen c n answer marks curve work → n ≡ 0 → sheets.HandedMarks c (chosenIn answer) marks d → SheetListed d m answer' lent
     → listedIn answer'
     ≡ granted (sheet.sums (chosenIn answer).figures.taxa (chosenIn answer).figures.cost (chosenIn answer).figures.diversity)
 chosen-listed {c} {d} x z h y = choice-listed c x.answered (sym x.number-given ∙ z) d h y.answered
@@ -82,7 +82,7 @@ chosen-listed {c} {d} x z h y = choice-listed c x.answered (sym x.number-given �
 -- from views alike the whole
 module _ {c d : view.Call} {n m : ℕ} {answer answer' lent lent' : List ℕ} (both : BuyersCalls c d) (x : Viewed buyerView c n answer lent)
     (y : Viewed buyerView d m answer' lent') where
-  pub buyers-shown : ViewHasRoom c → ViewHasRoom d → (n ≡ 0) × (m ≡ 0) × SameBytes c d (rulingIn answer) (rulingIn answer') lent lent'
+  pub buyers-shown : ViewSuffices c → ViewSuffices d → (n ≡ 0) × (m ≡ 0) × SameBytes c d (rulingIn answer) (rulingIn answer') lent lent'
   buyers-shown h k =
       let same = buyers-alike both x.answered y.answered h k in (
         x.number-given ∙ ap (λ (t : Ruling). t.number) same.told-passed,

@@ -23,7 +23,7 @@ use Rattle.newick.specs.Parsing.{Parsed, unread, tree, grown, parsed}
 use Rattle.reading.specs.Scan.{isTree}
 use Rattle.reading.specs.Answer.{call, Figures, told, rowsFor, judged, reply, outlineAfter, Numbers, Answered}
 use Rattle.newick.specs.Inner.{platesOf}
-use Rattle.reading.specs.Inner.{TreeRead, tree-bad, tree-many, tree-read, placeRows, Placed}
+use Rattle.reading.specs.Inner.{TreeRead, tree-bad, tree-many, tree-read, placeRows, TreePlaced}
 use Rattle.reading.specs.declared.answer.Answer.{Answer}
 use Rattle.reading.specs.declared.reader.Draft.{Draft}
 use Rattle.newick.proofs.Regrown.{layout-plates}
@@ -34,16 +34,16 @@ use Rattle.outline.specs.Rules.{mostRecords}
 
 -- ---- rows 11, 9 and 5 to 8, for a drafted outline
 module _ (o pairs outline : List ℕ) where
-  place-refused : (e : Refusal) → refusal e ≡ placeRows o pairs (length outline) → Placed o pairs outline (told (Answer.Refused e)) outline
+  place-refused : (e : Refusal) → refusal e ≡ placeRows o pairs (length outline) → TreePlaced o pairs outline (told (Answer.Refused e)) outline
   place-refused e h =
       let f : eqb (placeRows o pairs (length outline)).number 0 ≡ false = sym (ap (λ (t : Ruling). eqb t.number 0) h) ∙ refusal-not-zero e in
       record { told-placed = rw (f, ← h); outline-placed = rw f }
 
-  pub placed-bad : badPairs (platesOf o) pairs ≡ true → Placed o pairs outline (told (Answer.Refused Refusal.BadPairs)) outline
+  pub placed-bad : badPairs (platesOf o) pairs ≡ true → TreePlaced o pairs outline (told (Answer.Refused Refusal.BadPairs)) outline
   placed-bad e = place-refused Refusal.BadPairs (unfold placeRows in rw e)
 
   module _ (e : badPairs (platesOf o) pairs ≡ false) where
-    pub placed-short : length outline < length o → Placed o pairs outline (told (Answer.Refused Refusal.BufferTooShort)) outline
+    pub placed-short : length outline < length o → TreePlaced o pairs outline (told (Answer.Refused Refusal.BufferTooShort)) outline
     placed-short h = place-refused Refusal.BufferTooShort (unfold placeRows in rw (e, lt-ltb (length outline) (length o) h))
 
     module _ (h : length o ≤ length outline) where
@@ -52,11 +52,11 @@ module _ (o pairs outline : List ℕ) where
       rest = rw (e, le-ltb (length outline) (length o) h)
 
       pub placed-refused : {v : Verdict} (r : Refusal) → toldVerdict v ≡ recordRows o → v ≡ Verdict.Refused r
-          → Placed o pairs outline (told (Answer.Refused r)) outline
+          → TreePlaced o pairs outline (told (Answer.Refused r)) outline
       placed-refused r f is = place-refused r (sym (ap toldVerdict is) ∙ f ∙ sym rest)
 
       pub placed-read : {v : Verdict} {left : List ℕ} → toldVerdict v ≡ recordRows o → v ≡ Verdict.Accepted → left ≡ over o outline
-          → Placed o pairs outline (told (Answer.Read (size o))) left
+          → TreePlaced o pairs outline (told (Answer.Read (size o))) left
       placed-read f is d =
           let t : passed ≡ placeRows o pairs (length outline) = sym (ap toldVerdict is) ∙ f ∙ sym rest in
           record { told-placed = rw (← t); outline-placed = rw (← t) d }
@@ -141,11 +141,11 @@ module _ (text pairs outline : List ℕ) (numbers : Numbers pairs) where
 
     -- a tree of few records, judged and written
     pub placed-answered : {draft after : List ℕ} {n : ℕ} {r : Reply Figures} {left : List ℕ} → TreeRead pairs text draft after (Draft.Read n)
-        → Placed (take (16 * n) after) pairs outline r left → Answered (call text pairs outline) r left
+        → TreePlaced (take (16 * n) after) pairs outline r left → Answered (call text pairs outline) r left
     unfolding judged reply outlineAfter
     placed-answered {draft} {after} {n} {r} {left} (tree-read t e c k d) w =
         let p : parsed text ≡ tree t = parsed-short text h ∙ e in
-        let w' : Placed (layout (priceIn pairs) t) pairs outline r left = subst (λ o. Placed o pairs outline r left) (begins pairs draft after n t c d) w in
+        let w' : TreePlaced (layout (priceIn pairs) t) pairs outline r left = subst (λ o. TreePlaced o pairs outline r left) (begins pairs draft after n t c d) w in
         record {
           told-reply = rw (p, rows-placed text t pairs (length outline) p (omega arith), ← layout-size (priceIn pairs) t) w'.told-placed;
           outline-written = rw (p, rows-placed text t pairs (length outline) p (omega arith)) w'.outline-placed;

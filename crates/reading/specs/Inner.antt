@@ -167,6 +167,6 @@ unfoldable pub placeRows : List ℕ → List ℕ → ℕ → Ruling
 placeRows o pairs room = row 11 (badPairs (platesOf o) pairs) ▸ row 9 (ltb room (length o)) ▸ recordRows o
 
 -- what judging and writing it ensures
-pub record Placed (o pairs outline : List ℕ) (r : Reply Figures) (left : List ℕ) : Type 0 where
+pub record TreePlaced (o pairs outline : List ℕ) (r : Reply Figures) (left : List ℕ) : Type 0 where
   pub told-placed : r ≡ replied noFigures (placeRows o pairs (length outline)) (counted (size o))
   pub outline-placed : left ≡ after (placeRows o pairs (length outline)) o outline

@@ -2,7 +2,7 @@
 ghost use Rattle.std.specs.Prelude.{◌≡◌, ◌≤◌, length};
 ghost use Rattle.newick.specs.Grammar.{mostBytes};
 ghost use Rattle.reading.specs.Answer.{call, told, Answered};
-ghost use Rattle.reading.specs.Inner.{draftSize, TreeRead, Whole, Placed};
+ghost use Rattle.reading.specs.Inner.{draftSize, TreeRead, Whole, TreePlaced};
 
 use super::answer::Answer;
 use super::cursor::Cursor;
@@ -51,7 +51,7 @@ fn read_tree(text: &[u8], pairs: &[u32], draft: &mut [u8]) -> Draft
 // Judges a drafted outline, and writes it where no row holds.
 fn place(o: &[u8], pairs: &[u32], outline: &mut [u8]) -> Answer
     requires { Whole o.now }
-    ensures { Placed o.now pairs.now outline.old (told result) outline.new }
+    ensures { TreePlaced o.now pairs.now outline.old (told result) outline.new }
 {
     if bad_pairs(o, pairs) {
         return Answer::Refused(Refusal::BadPairs);

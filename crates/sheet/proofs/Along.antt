@@ -13,7 +13,7 @@ use Rattle.outline.specs.Inner.{numbers}
 use Rattle.outline.specs.Outline.{size, next, first, IsRecord}
 use Rattle.outline.specs.WellFormed.{Later, Linked, WellFormed}
 use Rattle.laws.proofs.Links.{Namer, by-next, by-first, namer}
-use Rattle.sheet.specs.Inner.{lower, higher, noPlace, placeOf, Since, priceCounts, branchCounts, FirstIn, FirstOut, Outsides, Placed}
+use Rattle.sheet.specs.Inner.{lower, higher, noPlace, placeOf, Since, priceCounts, branchCounts, FirstIn, FirstOut, Outsides, HasFirsts}
 use Rattle.sheet.proofs.Places.{first-none, out-members, out-rest, branch-since}
 
 -- the tables have a number for each link
@@ -62,7 +62,7 @@ module _ {o s : List ℕ} {r : ℕ} {firsts : List ℕ} (b : Backwards o s r fir
   }
 
 -- the table, at the links of a record
-module _ {o s firsts : List ℕ} {r : ℕ} (p : Placed o s firsts) (i : IsRecord o r) where
+module _ {o s firsts : List ℕ} {r : ℕ} (p : HasFirsts o s firsts) (i : IsRecord o r) where
   members-placed : FirstIn o s (first o r) (get_or firsts (first o r) 0)
   members-placed = p.firsts-are.at-link (first o r) (p.base.formed.linked.first-later r i.low i.high).most
 
@@ -116,7 +116,7 @@ module _ {o : List ℕ} {way : ℕ} {s : List ℕ} {r : ℕ} {outsides : List �
   }
 
   -- record r hands on what is outside the chain of its members, and outside the rest of its chain
-  pub onwards-goes : {firsts : List ℕ} {f n place around x y : ℕ} → Placed o s firsts → r ≤ size o → f ≡ first o r → n ≡ next o r → place ≡ placeOf s r
+  pub onwards-goes : {firsts : List ℕ} {f n place around x y : ℕ} → HasFirsts o s firsts → r ≤ size o → f ≡ first o r → n ≡ next o r → place ≡ placeOf s r
       → around ≡ lower (get_or outsides r 0) place → x ≡ lower around (get_or firsts n 0) → y ≡ lower around (get_or firsts f 0)
       → Onwards o way s (r + 1) (set (set outsides f x) n y)
   onwards-goes p u ef en ep ea ex ey =
@@ -131,6 +131,6 @@ module _ {o : List ℕ} {way : ℕ} {s : List ℕ} {r : ℕ} {outsides : List �
   onwards-ends linked h = record { at-record = λ q i. b.known q (reached o linked r q (omega (arith, i.high)) i.low i.high) }
 
 -- both tables, at a record: the place from which on its branch counts
-pub branch-at : {o s firsts outsides : List ℕ} (way : ℕ) {r n x y z : ℕ} → Placed o s firsts → Outsides o way s outsides → IsRecord o r → n ≡ next o r
+pub branch-at : {o s firsts outsides : List ℕ} (way : ℕ) {r n x y z : ℕ} → HasFirsts o s firsts → Outsides o way s outsides → IsRecord o r → n ≡ next o r
     → Since x (priceCounts o s r) → y ≡ lower (get_or outsides r 0) (get_or firsts n 0) → z ≡ higher x y → Since z (branchCounts o way s r)
 branch-at {s = s} way p out i en a ey ez = rw (ez, ey, en) (branch-since p.base.formed i s way (out.at-record _ i) a (rest-placed p i))

@@ -27,7 +27,7 @@ use Rattle.choice.specs.Answer as choose
 use Rattle.choice.proofs.Answers.{selected-accepted}
 use Rattle.choice.proofs.Demands.{selected-row, demand-2, demand-3}
 use Rattle.sheet.specs.Answer.{Call, Figures, sums, Answered, numbersOf, told, markedSet, badMark, sheetTaken, judged, figures, reply, sheetAfter}
-use Rattle.sheet.specs.Demands.{sheetTable, ListedOrRefused, AddsUp, TrueRow, RowsGiven, Handed}
+use Rattle.sheet.specs.Demands.{sheetTable, ListedOrRefused, AddsUp, TrueRow, RowsGiven, HandedMarks}
 use Rattle.sheet.specs.Sheet.{rowOf, rowsOf}
 use Rattle.sheet.specs.declared.answer.Answer.{Answer}
 use Rattle.sheet.proofs.Answers.{way-known, outline-accepted, set-long, marked-set}
@@ -167,7 +167,7 @@ module _ (c : Call) (accepted : (checked c.outline).number ≡ 0) (known : (c.wa
 
 -- a choice's marks are accepted as they are, and the sums are the choice's cost and diversity
 pub choice-listed : (c : choose.Call) {r : Reply choose.Figures} {marks curve work : List ℕ} → choose.Answered c r marks curve work → r.number ≡ 0
-    → (d : Call) {t : Reply Figures} {sheet : List ℕ} → Handed c r marks d → Answered d t sheet
+    → (d : Call) {t : Reply Figures} {sheet : List ℕ} → HandedMarks c r marks d → Answered d t sheet
     → t ≡ granted (sums r.figures.taxa r.figures.cost r.figures.diversity)
 choice-listed c {r} {marks} x z d {t} h y =
     let true_of = demand-2 c x z in

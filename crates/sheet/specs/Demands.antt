@@ -78,7 +78,7 @@ pub record RowsGiven (c : Call) (r : Reply Figures) (sheet : List ℕ) : Type 0 
   pub rest : drop (3 * r.figures.rows) sheet ≡ drop (3 * r.figures.rows) c.sheet
 
 -- a call of `sheet` is handed the outline and the way of a call of `choose`, the marks as that left them, and room for their rows
-pub record Handed (c : choose.Call) (r : Reply choose.Figures) (marks : List ℕ) (d : Call) : Type 0 where
+pub record HandedMarks (c : choose.Call) (r : Reply choose.Figures) (marks : List ℕ) (d : Call) : Type 0 where
   pub outline-is : d.outline ≡ c.outline
   pub way-is : d.way ≡ c.way
   pub marks-are : d.marks ≡ marks

@@ -73,7 +73,7 @@ pub record Outsides (o : List ℕ) (way : ℕ) (s outsides : List ℕ) : Type 0 
   pub at-record : (r : ℕ) → IsRecord o r → FirstOut o way s r (get_or outsides r 0)
 
 -- an accepted outline with a mark for each record, and a table with the first taxon in each chain
-pub record Placed (o s firsts : List ℕ) : Type 0 where
+pub record HasFirsts (o s firsts : List ℕ) : Type 0 where
   pub base : Measurable o s
   pub firsts-are : Firsts o s firsts
 

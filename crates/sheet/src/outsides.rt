@@ -1,6 +1,6 @@
 // The first taxon of a set outside each chain, by its place.
 ghost use Rattle.std.specs.Prelude.{if◌then◌else◌, ◌≡◌, eqb};
-ghost use Rattle.sheet.specs.Inner.{noPlace, Placed, Outsides};
+ghost use Rattle.sheet.specs.Inner.{noPlace, HasFirsts, Outsides};
 
 use super::firsts::{NONE, lower_of, place_of};
 use outline::fields::{first_of, next_of};
@@ -19,7 +19,7 @@ fn outside_root(way: u32) -> usize
 // The place of the first taxon outside the chain that begins at each record. One pass from the root on: outside the chain of a record's
 // members are the record itself and the rest of its chain, outside that rest are the record and its members.
 pub fn outsides_of(o: &[u8], way: u32, set: &[u8], firsts: &[usize; NUMBERS]) -> [usize; NUMBERS]
-    requires { Placed o.now set.now firsts.now }
+    requires { HasFirsts o.now set.now firsts.now }
     ensures { Outsides o.now way set.now result }
 {
     let n = o.len() / 16;

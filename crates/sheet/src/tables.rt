@@ -1,6 +1,6 @@
 // What each record adds to the quarters and to the diversity of the taxa before it.
 ghost use Rattle.diversity.specs.Diversity.{diversity, cost};
-ghost use Rattle.sheet.specs.Inner.{Placed, Adds};
+ghost use Rattle.sheet.specs.Inner.{HasFirsts, Adds};
 
 use super::firsts::{higher_of, lower_of, opened_at};
 use super::outsides::outsides_of;
@@ -10,7 +10,7 @@ use outline::limits::NUMBERS;
 // A price counts from the first taxon on that is at or below its record, so it is added at that taxon's place: one pass for all rows. What
 // never counts is added at the place of none, which has no row.
 pub fn quarters_of(o: &[u8], set: &[u8], firsts: &[usize; NUMBERS]) -> [u32; NUMBERS]
-    requires { Placed o.now set.now firsts.now }
+    requires { HasFirsts o.now set.now firsts.now }
     ensures { Adds o.now (cost o.now) set.now result }
 {
     let n = o.len() / 16;
@@ -26,7 +26,7 @@ pub fn quarters_of(o: &[u8], set: &[u8], firsts: &[usize; NUMBERS]) -> [u32; NUM
 
 // A branch counts once a taxon is at or below its record and another is not, so it is added at the higher of the two places.
 pub fn diversity_of(o: &[u8], way: u32, set: &[u8], firsts: &[usize; NUMBERS]) -> [u32; NUMBERS]
-    requires { Placed o.now set.now firsts.now }
+    requires { HasFirsts o.now set.now firsts.now }
     ensures { Adds o.now (diversity o.now way) set.now result }
 {
     let n = o.len() / 16;

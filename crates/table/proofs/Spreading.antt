@@ -18,7 +18,7 @@ use Rattle.laws.proofs.Best.{from-better}
 use Rattle.rows.specs.Rows.{Row, betterRow, joinRow}
 use Rattle.rows.proofs.Joins.{join-none, join-at, join-nothing}
 use Rattle.cells.specs.Cells.{cell, lockedOf, diversityOf, costOf, codeOf}
-use Rattle.cells.specs.Memory.{rowAt, Apart, Written, joinFrom, BetteringBy, Bettering, ChargingFrom, Joins, Joining}
+use Rattle.cells.specs.Memory.{rowAt, Apart, RowWritten, joinFrom, BetteringBy, Bettering, ChargingFrom, Joins, Joining}
 use Rattle.table.specs.Table.{taxonWorth, TerminalFilled, Finished, TaxonJoins, TaxonRow, Base}
 use Rattle.table.specs.Spread.{Running, Bettered, Pairable, TaxonSpreadable, TaxonSpread, Tops, BySingle, ByPairs, ByRow}
 use Rattle.table.proofs.Places.{base-kept, blank-none, idle-nothing, front-inside}
@@ -54,7 +54,7 @@ shuffle t n s c =
 
 -- ---- the running optimum bettered by a value joined with a row, from its cost on: below that there is nothing to join
 bettered-from : {w : ℕ} {l m : List ℕ} (v : Value) (x : Row)
-    → Written (2 * w) v.cost w (λ b. betterOf (joinFrom (some v) v.cost x b) (cell l (2 * w + b))) l m
+    → RowWritten (2 * w) v.cost w (λ b. betterOf (joinFrom (some v) v.cost x b) (cell l (2 * w + b))) l m
     → Bettered w (joinRow v x) l m
 unfolding betterOf
 bettered-from {w} {l} {m} v x h = record {
@@ -243,7 +243,7 @@ module _ {o : List ℕ} {r rest above to w : ℕ} {l : List ℕ} (s : TaxonSprea
     }
 
   -- the row at `to` alone
-  spreadable-filled : {x : Row} {m : List ℕ} → Written to 0 w x l m → length m ≡ length l → TaxonSpreadable o r rest above to w m
+  spreadable-filled : {x : Row} {m : List ℕ} → RowWritten to 0 w x l m → length m ≡ length l → TaxonSpreadable o r rest above to w m
   spreadable-filled v len =
       spreadable-kept _ len (λ k p q. v.same k (λ g. p (omega arith)))
       (λ b h. rw (v.same (2 * w + b) (λ q. omega (arith, s.to-above))) (pairs.running.least b h))

@@ -15,7 +15,7 @@ use Rattle.rows.specs.Rows.{Row}
 use Rattle.rows.proofs.Joins.{join-of-nothing}
 use Rattle.rows.proofs.Sets.{noRecord}
 use Rattle.cells.specs.Cells.{cell, lockedOf, diversityOf, costOf}
-use Rattle.cells.specs.Memory.{rowAt, Written, joinOver, Joins, Joining, Adds}
+use Rattle.cells.specs.Memory.{rowAt, RowWritten, joinOver, Joins, Joining, Adds}
 use Rattle.table.specs.Table.{taxonWorth, terminalRow, Shows, Terminal, TerminalFilled, Finished, TaxonJoins, taxonOver, TaxonRow}
 use Rattle.cells.proofs.ByPrice.{le-or-lt, join-below, join-same}
 use Rattle.cells.proofs.Words.{none-some}
@@ -52,7 +52,7 @@ module _ (o : List ℕ) (r : ℕ) where
 
 -- ---- nothing chosen below the price, and then the taxon
 module _ (o : List ℕ) (r : ℕ) {to w n : ℕ} {l m : List ℕ} {c : Cand} (e : n ≡ min (price o r) w) (is-nothing : c ≡ some nothingWorth)
-    (zeros : Written to 0 n (λ _. c) l m) where
+    (zeros : RowWritten to 0 n (λ _. c) l m) where
   under : (b : ℕ) → b < w → b < price o r → cell m (to + b) ≡ terminalRow o r b
   under b h q = zeros.row b (omega arith) (omega arith) ∙ is-nothing ∙ sym (terminal-below o r b q)
 
@@ -63,7 +63,7 @@ module _ (o : List ℕ) (r : ℕ) {to w n : ℕ} {l m : List ℕ} {c : Cand} (e 
     written = record { row = λ b u h. under b h (omega arith); same = λ k g. zeros.same k (λ q. omega (arith, g q)) };
   }
 
-  module _ {m' : List ℕ} {d : Cand} (is-taxon : d ≡ some (taxon o r)) (lengths : Written to (price o r) w (λ _. d) m m') where
+  module _ {m' : List ℕ} {d : Cand} (is-taxon : d ≡ some (taxon o r)) (lengths : RowWritten to (price o r) w (λ _. d) m m') where
     finished : Finished o r to w m'
     finished b h =
         ⊎_elim (λ q. lengths.row b q h ∙ is-taxon ∙ sym (terminal-from o r b q)) (λ q. lengths.same (to + b) (λ g. absurd (omega arith)) ∙ under b h q)
@@ -79,7 +79,7 @@ module _ (o : List ℕ) (r : ℕ) {to w n : ℕ} {l m : List ℕ} {c : Cand} (e 
     }
 
 -- ---- the rows beside it stay while its columns are written
-module _ {o : List ℕ} {r x y to w n : ℕ} {l m : List ℕ} {t : Row} (j : TaxonJoins o r x y to w l) (most : n ≤ w) (v : Written to 0 n t l m) where
+module _ {o : List ℕ} {r x y to w n : ℕ} {l m : List ℕ} {t : Row} (j : TaxonJoins o r x y to w l) (most : n ≤ w) (v : RowWritten to 0 n t l m) where
   first-same : (i : ℕ) → i < w → cell m (x + i) ≡ cell l (x + i)
   first-same i h = v.same (x + i) (⊎_elim (λ p q. omega arith) (λ p q. omega arith) j.beside.first-apart)
 
@@ -110,7 +110,7 @@ module _ {o : List ℕ} {r x y to w n : ℕ} {l m : List ℕ} {t : Row} (j : Tax
       (second-same b h)
 
 -- a row that is joined after it was filled
-pub row-kept : {o : List ℕ} {r x y to w : ℕ} {l m m' : List ℕ} {t : Row} → TaxonJoins o r x y to w l → Written to 0 w t l m
+pub row-kept : {o : List ℕ} {r x y to w : ℕ} {l m m' : List ℕ} {t : Row} → TaxonJoins o r x y to w l → RowWritten to 0 w t l m
     → TaxonRow o r x y to w m m' → TaxonRow o r x y to w l m'
 row-kept j v h = record {
   row = λ b u k. h.row b u k ∙ joined-same j (omega arith) v b k;
@@ -142,7 +142,7 @@ module _ {o : List ℕ} {r x y to w : ℕ} {l : List ℕ} (j : TaxonJoins o r x 
     blank = λ z b h. j.beside.second-blank z b (omega arith);
   }
 
-  module _ {l₁ : List ℕ} (len : length l₁ ≡ length l) (h₁ : Written to 0 n (rowAt l y) l l₁) where
+  module _ {l₁ : List ℕ} (len : length l₁ ≡ length l) (h₁ : RowWritten to 0 n (rowAt l y) l l₁) where
     own-is : (b : ℕ) → p ≤ b → b < w → cell l₁ (to + b) ≡ some (taxon o r)
     own-is b q h = h₁.same (to + b) (λ g. omega arith) ∙ f b h ∙ terminal-from o r b q
 

@@ -15,7 +15,7 @@ use Rattle.rows.specs.Rows.{rootedRow, topRow}
 use Rattle.rows.proofs.Bounds.{lockings-limit, branches-limit, prices-limit, codes-limit}
 use Rattle.rows.proofs.Steps.{pushed-same, under-none}
 use Rattle.cells.specs.Cells.{cell}
-use Rattle.cells.specs.Memory.{Written, Bettering}
+use Rattle.cells.specs.Memory.{RowWritten, Bettering}
 use Rattle.table.specs.Table.{start, Base, Pushable, Pushed, Fillable, Filled, acrossFrom}
 use Rattle.table.specs.Spread.{Spreadable, Spread}
 use Rattle.table.proofs.Places.{base-kept}
@@ -25,8 +25,8 @@ module _ {o : List ℕ} {w : ℕ} {l₀ : List ℕ} (s : Fillable o w l₀) wher
   table-inside = omega (arith, s.long)
 
   -- the rows of no set and of nothing
-  module _ {l₁ l₂ : List ℕ} (h₁ : Written 0 0 w (λ b. none) l₀ l₁) (k₁ : length l₁ ≡ length l₀)
-      (h₂ : Written w 0 w (λ b. some nothingWorth) l₁ l₂) (k₂ : length l₂ ≡ length l₁) where
+  module _ {l₁ l₂ : List ℕ} (h₁ : RowWritten 0 0 w (λ b. none) l₀ l₁) (k₁ : length l₁ ≡ length l₀)
+      (h₂ : RowWritten w 0 w (λ b. some nothingWorth) l₁ l₂) (k₂ : length l₂ ≡ length l₁) where
     none₂ : (b : ℕ) → b < w → cell l₂ b ≡ none
     none₂ b h = h₂.same b (λ q. omega arith) ∙ ap (cell l₁) (omega arith) ∙ h₁.row b (omega arith) h
 
@@ -70,7 +70,7 @@ module _ {o : List ℕ} {w : ℕ} {l₀ : List ℕ} (s : Fillable o w l₀) wher
       }
 
     -- unrooted
-    module _ {l₃ : List ℕ} (h₃ : Written (2 * w) 0 w (λ b. some nothingWorth) l₂ l₃) (k₃ : length l₃ ≡ length l₂) where
+    module _ {l₃ : List ℕ} (h₃ : RowWritten (2 * w) 0 w (λ b. some nothingWorth) l₂ l₃) (k₃ : length l₃ ≡ length l₂) where
       pub spreadable-root : Spreadable o 1 0 (3 * w) w l₃
       spreadable-root = record {
         running = record {

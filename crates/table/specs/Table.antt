@@ -8,7 +8,7 @@ use Rattle.laws.specs.Numbers.{weight}
 use Rattle.rows.specs.Rows.{Row, pushed, rootedRow, acrossUnder, aloneRow, crossRow, topRow}
 use Rattle.rows.specs.Worth.{rootedWorth}
 use Rattle.cells.specs.Cells.{unit, lift, wordLimit, cell, Joinable}
-use Rattle.cells.specs.Memory.{rowAt, Apart, Written, Beside, joinOver}
+use Rattle.cells.specs.Memory.{rowAt, Apart, RowWritten, Beside, joinOver}
 use Rattle.outline.specs.Rules.{mostRecords, mostPrice}
 use Rattle.laws.specs.Measures.{lock, rootedIn}
 use Rattle.rows.specs.Bounds.{BoundedRow, lockings, branches, codes}
@@ -60,7 +60,7 @@ pub record TerminalFills (o : List ℕ) (r to w : ℕ) (l : List ℕ) : Type 0 w
 -- and what it leaves
 pub record TerminalFilled (o : List ℕ) (r to w : ℕ) (l m : List ℕ) : Type 0 where
   pub terminal : Terminal o r to w m
-  pub written : Written to 0 w (terminalRow o r) l m
+  pub written : RowWritten to 0 w (terminalRow o r) l m
 
 -- the finished row stands at `to`
 abbrev pub Finished : List ℕ → ℕ → ℕ → ℕ → List ℕ → Type 0
@@ -81,7 +81,7 @@ taxonOver o r x y = joinOver (some (taxonWorth o r (branch o r) (price o r))) (p
 
 -- what it leaves
 abbrev pub TaxonRow : List ℕ → ℕ → ℕ → ℕ → ℕ → ℕ → List ℕ → List ℕ → Type 0
-TaxonRow o r x y to w l m = Written to 0 w (taxonOver o r (rowAt l x) (rowAt l y)) l m
+TaxonRow o r x y to w l m = RowWritten to 0 w (taxonOver o r (rowAt l x) (rowAt l y)) l m
 
 -- the rows of the chain that begins at record r: what is pushed through it, something in it rooted, and unrooted below
 -- groups that cost `above`

@@ -14,7 +14,7 @@ use Rattle.outline.specs.WellFormed.{WellFormed}
 use Rattle.outline.specs.Answer.{checked}
 use Rattle.outline.proofs.WellFormed.{accepted-formed}
 use Rattle.view.specs.Answer.{Call, viewTaken, judged, viewAfter, Answered}
-use Rattle.view.specs.Demands.{HasRoom}
+use Rattle.view.specs.Demands.{ViewSuffices}
 
 module _ (c : Call) where
   -- no row of the table holds
@@ -29,7 +29,7 @@ module _ (c : Call) where
     pub outline-formed : WellFormed c.outline
     outline-formed = accepted-formed c.outline (eq-eqb _ _ outline-accepted)
 
-    pub view-suffices : HasRoom c
+    pub view-suffices : ViewSuffices c
     view-suffices = ltb-false _ _ (row-fails _ _ rows-pass.1)
 
   module _ (shown : List ℕ → List ℕ) where

@@ -16,7 +16,7 @@ use Rattle.outline.specs.Outline.{size}
 use Rattle.outline.specs.Answer.{checked}
 use Rattle.outline.proofs.Demands.{checked-gives}
 use Rattle.view.specs.Answer.{Call, viewTaken, judged, viewAfter, Answered}
-use Rattle.view.specs.Demands.{viewTable, ShownOrRefused, HouseGiven, Cleared, BuyerGiven, BuyersCalls, HasRoom, SameBytes}
+use Rattle.view.specs.Demands.{viewTable, ShownOrRefused, HouseGiven, Cleared, BuyerGiven, BuyersCalls, ViewSuffices, SameBytes}
 use Rattle.view.specs.View.{houseView, buyerView}
 use Rattle.view.proofs.Answers.{outline-accepted, outline-formed}
 use Rattle.view.proofs.Cleared.{buyer-length, buyer-alike, buyer-cleared, buyer-accepted}
@@ -27,7 +27,7 @@ unfolding judged
 judged-gives c = gives-then (checked-gives c.outline) (gives-whole 8 (decides-less (length c.view) (viewTaken c)))
 
 -- no row holds where the outline is accepted and the view suffices
-suffices-passed : (c : Call) → checked c.outline ≡ passed → HasRoom c → judged c ≡ passed
+suffices-passed : (c : Call) → checked c.outline ≡ passed → ViewSuffices c → judged c ≡ passed
 unfolding judged
 suffices-passed c a h = rw (a, le-ltb _ _ h)
 
@@ -45,7 +45,7 @@ module _ {shown : List ℕ → List ℕ} (c : Call) {t : Ruling} {view : List �
   }
 
   -- an accepted outline is shown where the view suffices: nothing else stops it
-  pub view-shown : checked c.outline ≡ passed → HasRoom c → t ≡ passed
+  pub view-shown : checked c.outline ≡ passed → ViewSuffices c → t ≡ passed
   view-shown a h = x.told-judged ∙ suffices-passed c a h
 
   -- the number told is 0
@@ -91,7 +91,7 @@ buyer-given c x z =
 -- ---- two calls on accepted outlines that agree except in prices and locks
 module _ {c d : Call} (both : BuyersCalls c d) {t u : Ruling} {view view' : List ℕ} (x : Answered buyerView c t view) (y : Answered buyerView d u view') where
   -- from any two views that suffice the readers get identical bytes
-  pub buyers-alike : HasRoom c → HasRoom d → SameBytes c d t u view view'
+  pub buyers-alike : ViewSuffices c → ViewSuffices d → SameBytes c d t u view view'
   buyers-alike h k =
       let told = view-shown c x both.accepted h in
       let also = view-shown d y both.also-accepted k in

@@ -63,8 +63,8 @@ pub record BuyersCalls (c d : Call) : Type 0 where
   pub agree : AgreeButPricesAndLocks c.outline d.outline
 
 -- a call's view has the bytes that it needs
-abbrev pub HasRoom : Call → Type 0
-HasRoom c = viewTaken c ≤ length c.view
+abbrev pub ViewSuffices : Call → Type 0
+ViewSuffices c = viewTaken c ≤ length c.view
 
 -- neither call is refused, and both readers get the same bytes
 pub record SameBytes (c d : Call) (t u : Ruling) (view view' : List ℕ) : Type 0 where

@@ -9,7 +9,7 @@ use Rattle.text.proofs.Decimal.{decimal-ind, decimal-some, decimal-most}
 use Rattle.newick.specs.Grammar.{Kind, part, Tree, taxon, group, last, more, Word, opening, closing, comma, colon, number}
 use Rattle.newick.specs.Grammar.{Blank, blank, tab, line-feed, carriage-return, a-length, Spelled, a-taxon, a-group, the-last, one-more, mostBytes, Spells}
 use Rattle.newick.specs.Grammar.{opening-bracket, closing-bracket, a-comma, a-colon, a-semicolon}
-use Rattle.newick.specs.Grammar.{Digit, Digits, no-digits, a-digit, NoDigit, before, Written, nothing, after-mark, after-number}
+use Rattle.newick.specs.Grammar.{Digit, Digits, no-digits, a-digit, NoDigit, before, WordsWritten, nothing, after-mark, after-number}
 use Rattle.newick.specs.Inner.{InRange, taxon-in, group-in, last-in, more-in}
 use Rattle.reading.specs.Demands.{In, here, there}
 use Rattle.writing.specs.Text.{spelling, textOf}
@@ -43,7 +43,7 @@ words-spelled (last t) = the-last (words-spelled t)
 words-spelled (more t ms) = one-more (words-spelled t) (words-spelled ms)
 
 -- a number before words that begin with no digit, as no mark does
-number-first : {ws : List Word} {s : List ℕ} (v : ℕ) → v ≤ 999999999 → NoDigit s → Written ws s → Written (number v ∷ ws) (decimal v ++ s)
+number-first : {ws : List Word} {s : List ℕ} (v : ℕ) → v ≤ 999999999 → NoDigit s → WordsWritten ws s → WordsWritten (number v ∷ ws) (decimal v ++ s)
 number-first v h n w = after-number (decimal-digits v) (decimal-some v) (decimal-most 8 v (omega arith)) n w
 
 low-mark : {b : ℕ} {s : List ℕ} → b < 48 → NoDigit (b ∷ s)
@@ -53,8 +53,8 @@ high-mark : {b : ℕ} {s : List ℕ} → 57 < b → NoDigit (b ∷ s)
 high-mark {b} h = before (λ (d : Digit b). omega (arith, d.high))
 
 -- the bytes are those of the words
-spelling-written : {κ : Kind} {t : Tree κ} → InRange κ t → {ws : List Word} {s : List ℕ} → NoDigit s → Written ws s
-    → Written (wordsIn t ++ ws) (spelling t ++ s)
+spelling-written : {κ : Kind} {t : Tree κ} → InRange κ t → {ws : List Word} {s : List ℕ} → NoDigit s → WordsWritten ws s
+    → WordsWritten (wordsIn t ++ ws) (spelling t ++ s)
 unfolding spelling
 spelling-written (taxon-in {p} {l} a b) {ws} {s} n w =
     rw (append_assoc (decimal p) (58 ∷ decimal l) s)

@@ -1,5 +1,5 @@
 use Rattle.std.proofs.Common.{◌∙◌, arith}
-use Rattle.cells.proofs.Written.{filling-goes, aside-same}
+use Rattle.cells.proofs.RowWritten.{filling-goes, aside-same}
 use Rattle.cells.proofs.memory.add_row.Goals as goal
 
 pub loop-b-preserved : goal.loop-b-preserved

@@ -1,7 +1,7 @@
 -- `cells::memory::add_row` meets its contract: each turn puts one column, made of two that stand as they did at entry.
 use Rattle.std.proofs.Common.{◌-◌}
 use Rattle.cells.specs.Memory.{rowAt}
-use Rattle.cells.proofs.Written.{Filling}
+use Rattle.cells.proofs.RowWritten.{Filling}
 use Rattle.cells.proofs.memory.add_row.Given as goal
 
 abbrev pub invariant-loop-b : goal.invariant-loop-b

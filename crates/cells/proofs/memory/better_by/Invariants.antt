@@ -2,7 +2,7 @@
 use Rattle.std.proofs.Common.{◌+◌, ◌-◌}
 use Rattle.laws.specs.Candidate.{betterOf}
 use Rattle.cells.specs.Cells.{view, cell}
-use Rattle.cells.proofs.Written.{Filling}
+use Rattle.cells.proofs.RowWritten.{Filling}
 use Rattle.cells.proofs.memory.better_by.Given as goal
 
 abbrev pub invariant-loop-b : goal.invariant-loop-b

@@ -1,6 +1,6 @@
 use Rattle.std.proofs.Common.{ap₂, ◌∙◌, arith}
 use Rattle.laws.specs.Candidate.{betterOf}
-use Rattle.cells.proofs.Written.{filling-goes, aside-same}
+use Rattle.cells.proofs.RowWritten.{filling-goes, aside-same}
 use Rattle.cells.proofs.memory.better_rows.Goals as goal
 
 pub loop-b-preserved : goal.loop-b-preserved

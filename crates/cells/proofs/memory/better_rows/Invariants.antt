@@ -2,7 +2,7 @@
 use Rattle.std.proofs.Common.{◌-◌}
 use Rattle.rows.specs.Rows.{betterRow}
 use Rattle.cells.specs.Memory.{rowAt}
-use Rattle.cells.proofs.Written.{Filling}
+use Rattle.cells.proofs.RowWritten.{Filling}
 use Rattle.cells.proofs.memory.better_rows.Given as goal
 
 abbrev pub invariant-loop-b : goal.invariant-loop-b

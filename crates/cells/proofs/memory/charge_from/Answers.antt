@@ -1,7 +1,7 @@
 use Rattle.std.proofs.Common.{◌-◌, ap, ap₂, ◌∙◌, arith}
 use Rattle.laws.specs.Candidate.{betterOf, chargeOf}
 use Rattle.cells.specs.Memory.{rowAt}
-use Rattle.cells.proofs.Written.{filling-back, back-same, join-from}
+use Rattle.cells.proofs.RowWritten.{filling-back, back-same, join-from}
 use Rattle.cells.proofs.memory.charge_from.Goals as goal
 
 pub loop-b-preserved : goal.loop-b-preserved

@@ -1,6 +1,6 @@
 -- `cells::memory::charge_from` meets its contract: each turn puts one column, made of two that stand as they did at entry.
 use Rattle.cells.specs.Memory.{rowAt, chargeOver}
-use Rattle.cells.proofs.Written.{Filling}
+use Rattle.cells.proofs.RowWritten.{Filling}
 use Rattle.cells.proofs.memory.charge_from.Given as goal
 
 abbrev pub invariant-loop-b : goal.invariant-loop-b

@@ -1,7 +1,7 @@
 -- `cells::memory::fill_row` meets its contract: each turn puts one column.
 use Rattle.std.proofs.Common.{◌-◌}
 use Rattle.cells.specs.Cells.{view}
-use Rattle.cells.proofs.Written.{Filling}
+use Rattle.cells.proofs.RowWritten.{Filling}
 use Rattle.cells.proofs.memory.fill_row.Given as goal
 
 abbrev pub invariant-loop-b : goal.invariant-loop-b

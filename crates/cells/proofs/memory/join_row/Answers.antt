@@ -2,7 +2,7 @@ use Rattle.std.proofs.Common.{◌-◌, ap, ap₂, ◌∙◌, arith}
 use Rattle.laws.specs.Candidate.{betterOf, joinOf, chargeOf}
 use Rattle.rows.specs.Rows.{betterRow}
 use Rattle.cells.specs.Memory.{rowAt}
-use Rattle.cells.proofs.Written.{filling-goes, aside-same, apart-same, join-from}
+use Rattle.cells.proofs.RowWritten.{filling-goes, aside-same, apart-same, join-from}
 use Rattle.cells.proofs.memory.join_row.Goals as goal
 
 pub loop-b-preserved : goal.loop-b-preserved

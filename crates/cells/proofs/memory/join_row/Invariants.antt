@@ -3,7 +3,7 @@ use Rattle.std.proofs.Common.{◌+◌, ◌-◌}
 use Rattle.laws.specs.Candidate.{chargeOf}
 use Rattle.cells.specs.Cells.{cell}
 use Rattle.cells.specs.Memory.{rowAt, joinOver}
-use Rattle.cells.proofs.Written.{Filling}
+use Rattle.cells.proofs.RowWritten.{Filling}
 use Rattle.cells.proofs.memory.join_row.Given as goal
 
 abbrev pub invariant-loop-b : goal.invariant-loop-b

@@ -1,6 +1,6 @@
 -- `cells::memory::put` meets its contract.
 use Rattle.cells.specs.Cells.{view}
-use Rattle.cells.proofs.Written.{put-words}
+use Rattle.cells.proofs.RowWritten.{put-words}
 use Rattle.cells.proofs.memory.put.Goals as goal
 
 pub returns : goal.returns

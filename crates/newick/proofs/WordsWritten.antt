@@ -12,7 +12,7 @@ use Rattle.newick.specs.Grammar.{Word, opening, closing, comma, colon, semicolon
 use Rattle.newick.specs.Grammar.{Blank, blank, tab, line-feed, carriage-return}
 use Rattle.newick.specs.Grammar.{Mark, opening-bracket, closing-bracket, a-comma, a-colon, a-semicolon}
 use Rattle.newick.specs.Grammar.{Digit, Digits, no-digits, a-digit, NoDigit, at-end, before}
-use Rattle.newick.specs.Grammar.{Written, nothing, after-blank, after-mark, after-number}
+use Rattle.newick.specs.Grammar.{WordsWritten, nothing, after-blank, after-mark, after-number}
 use Rattle.newick.specs.Parsing.{signOf, digitSign, isDigit, ended, tokensBy, tokensFrom, tokensOf}
 use Rattle.newick.specs.declared.sign.Sign.{Sign}
 use Rattle.newick.specs.declared.token.Token.{Token}
@@ -73,7 +73,7 @@ no-word (w ∷ ws) e =
 
 -- a text is written with the words that have these tokens
 abbrev Wording : List Token → List ℕ → Type 0
-Wording ts s = (ws : List Word) → ts ≡ tokensFor ws → Written ws s
+Wording ts s = (ws : List Word) → ts ≡ tokensFor ws → WordsWritten ws s
 
 -- one digit more
 more-digits : {a v b : ℕ} {ds : List ℕ} → Digits a ds v → Digit b → Digits a (ds ++ (b ∷ [])) (10 * v + (b - 48))
@@ -88,7 +88,7 @@ end-number zero v [] s ts d l n later ws e = later ws e
 end-number zero v (x ∷ ds) s ts d l n later ws e = absurd (omega arith)
 end-number (suc k) v ds s ts d l n later ws e = go (ltb k 9) refl e
   where
-    go : (t : Bool) → ltb k 9 ≡ t → (if t then Token.Number v else Token.Other) ∷ ts ≡ tokensFor ws → Written ws (ds ++ s)
+    go : (t : Bool) → ltb k 9 ≡ t → (if t then Token.Number v else Token.Other) ∷ ts ≡ tokensFor ws → WordsWritten ws (ds ++ s)
     go true q e =
         let (vs, all, rest) = first-word (number v) ws e in
         rw all (after-number d (omega arith) (omega (arith, ltb-true k 9 q)) n (later vs rest))
@@ -157,7 +157,7 @@ text-written (b ∷ s) c v ds d l =
         end-number c v ds (b ∷ s) _ d l stop ((begins b s later).wording q) ws (sym (by-other (signOf b) c v _ [] _ q) ∙ e)
 
 -- a text whose tokens are those of words is written with them
-pub words-written : (ws : List Word) (text : List ℕ) → tokensOf text ≡ tokensFor ws → Written ws text
+pub words-written : (ws : List Word) (text : List ℕ) → tokensOf text ≡ tokensFor ws → WordsWritten ws text
 words-written ws text = text-written text 0 0 [] no-digits refl ws
 
 -- ---- and the other way round
@@ -189,7 +189,7 @@ mark-read s a-colon = refl
 mark-read s a-semicolon = refl
 
 -- the tokens of a text are those of the words that it is written with
-pub written-words : {ws : List Word} {text : List ℕ} → Written ws text → tokensOf text ≡ tokensFor ws
+pub written-words : {ws : List Word} {text : List ℕ} → WordsWritten ws text → tokensOf text ≡ tokensFor ws
 unfolding tokensFrom tokenFor
 written-words nothing = refl
 written-words (after-blank h r) = rw (sign-blank h) (written-words r)
@@ -198,7 +198,7 @@ written-words (after-number {v} {ds} {ws} {s} d l u n r) =
     digits-read d 0 s ∙ number-read (0 + length ds) v n (omega arith) (omega arith) ∙ ap (λ ts. Token.Number v ∷ ts) (written-words r)
 
 -- a text has no fewer bytes than words
-pub written-length : {ws : List Word} {text : List ℕ} → Written ws text → length ws ≤ length text
+pub written-length : {ws : List Word} {text : List ℕ} → WordsWritten ws text → length ws ≤ length text
 written-length nothing = omega arith
 written-length (after-blank h r) = omega (arith, written-length r)
 written-length (after-mark m r) = omega (arith, written-length r)

@@ -11,7 +11,7 @@ use borrow.Author.Tests.{le-leb}
 use Rattle.laws.specs.Candidate.{Cand, joinOf}
 use Rattle.rows.specs.Rows.{Row}
 use Rattle.cells.specs.Cells.{seen, cell}
-use Rattle.cells.specs.Memory.{Apart, Put, Written, joinFrom}
+use Rattle.cells.specs.Memory.{Apart, Put, RowWritten, joinFrom}
 
 -- two words put at a cell of a list
 pub put-words : (l : List ℕ) (k s m : ℕ) → 2 * k + 1 < length l → Put k (seen s m) l (set (set l (2 * k) s) (2 * k + 1) m)
@@ -35,7 +35,7 @@ pub record Filling (to lo w : ℕ) (x : Row) (l m : List ℕ) (i j : ℕ) : Type
   pub ordered : i ≤ j
   pub inside : (i ≡ j) ⊎ ((lo ≤ i) × (j ≤ w))
   pub long : length m ≡ length l
-  pub written : Written to i j x l m
+  pub written : RowWritten to i j x l m
 
 module _ {to lo w : ℕ} {x : Row} {l m : List ℕ} {i j : ℕ} (h : Filling to lo w x l m i j) where
   -- from left to right
