@@ -51,7 +51,7 @@ told-determined (Answer.Refused d) (Answer.Selected e l u v) h = absurd (granted
 told-determined (Answer.Refused d) (Answer.Refused e) h = ap Answer.Refused (refused-determined d e h)
 
 -- the search ends with nothing in hand exactly if no set fits
-none-decided : (o : List ℕ) (way b : ℕ) → Decides (NoneFits o b) (noneFits o way b)
+pub none-decided : (o : List ℕ) (way b : ℕ) → Decides (NoneFits o b) (noneFits o way b)
 none-decided o way b = rw (none-exactly o way b) (Iff.trans (decides-less b (cost o (lockedSet o))) (none-fits o b))
 
 module _ (c : Call) where

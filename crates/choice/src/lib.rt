@@ -9,3 +9,4 @@ mod marks;
 
 pub use answer::Answer;
 pub use chooser::choose;
+pub use judge::MOST_COUNT;

@@ -6,6 +6,7 @@ pub mod Chains
 pub mod FewTaxa
 pub mod Forest
 pub mod Free
+pub mod Handing
 pub mod Headings
 pub mod Links
 pub mod Locks

@@ -87,8 +87,8 @@ module _ (o s : List ℕ) where
       none-by false b h = refl
 
 -- ---- the locked taxa by themselves
--- a record that is chosen has a mark, and record 0 would read as record 1
-chosen-inside : (s : List ℕ) (r : ℕ) → chosen s r ≡ true → r - 1 < length s
+-- a record that is chosen has a mark, and record 0 reads as record 1
+pub chosen-inside : (s : List ℕ) (r : ℕ) → chosen s r ≡ true → r - 1 < length s
 unfolding chosen
 chosen-inside s r e = go (ltb (r - 1) (length s)) refl
   where
@@ -96,7 +96,7 @@ chosen-inside s r e = go (ltb (r - 1) (length s)) refl
     go true h = ltb-true _ _ h
     go false h = absurd (false≢true (sym (ap (λ k. eqb k 1) (get_or-eq_default s 0 (ltb-false _ _ h))) ∙ e))
 
-chosen-at : (s : List ℕ) (r : ℕ) → chosen s r ≡ chosen s (suc (r - 1))
+pub chosen-at : (s : List ℕ) (r : ℕ) → chosen s r ≡ chosen s (suc (r - 1))
 unfolding chosen
 chosen-at s r = ap (λ i. eqb (get_or s i 0) 1) (omega arith)
 

@@ -34,7 +34,7 @@ implies-if true b n h = rw (h refl) (omega arith)
 implies-if false b n h = omega arith
 
 module _ (o s t : List ℕ) (more : (r : ℕ) → Implies (chosen s r) (chosen t r)) where
-  within-more : (r : ℕ) → Implies (within o s r) (within o t r)
+  pub within-more : (r : ℕ) → Implies (within o s r) (within o t r)
   unfolding within
   within-more r = implies-anywhere (chosen s) (chosen t) more (clade o r)
 

@@ -93,7 +93,7 @@ module _ (s : List ℕ) where
 
     -- record i + 1 is not chosen
     module _ (none : chosen s (suc i) ≡ false) where
-      step-alike : (r : ℕ) → chosen (take (suc i) s) r ≡ chosen (take i s) r
+      pub step-alike : (r : ℕ) → chosen (take (suc i) s) r ≡ chosen (take i s) r
       step-alike r = go (ltb (r - 1) i) refl (eqb (r - 1) i) refl
         where
           go : (b : Bool) → ltb (r - 1) i ≡ b → (c : Bool) → eqb (r - 1) i ≡ c → chosen (take (suc i) s) r ≡ chosen (take i s) r

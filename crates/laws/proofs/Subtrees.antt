@@ -79,7 +79,7 @@ module _ (o : List ℕ) (linked : Linked o) where
         ap one (eq-eqb q q refl),
       )
 
-  parent-one : {p u q : ℕ} → Parent o p q → Parent o u q → p ≡ u
+  pub parent-one : {p u q : ℕ} → Parent o p q → Parent o u q → p ≡ u
   unfolding records
   parent-one {p = zero} x y = omega (arith, under-root x refl, parent-later o linked y)
   parent-one {p = suc p} {u = zero} x y = omega (arith, under-root y refl, parent-later o linked x)

@@ -83,6 +83,13 @@ unfolding total
 total-below f g [] h = omega arith
 total-below f g (x ∷ xs) h = omega (arith, h x, total-below f g xs h)
 
+-- none on the range
+pub total-range : (f g : ℕ → ℕ) (a n : ℕ) → ((r : ℕ) → a ≤ r → r < a + n → f r ≤ g r) → total f (from a n) ≤ total g (from a n)
+unfolding total from
+total-range f g a zero h = omega arith
+total-range f g a (suc n) h =
+    omega (arith, h a (omega arith) (omega arith), total-range f g (a + 1) n (λ r l u. h r (omega arith) (omega arith)))
+
 -- where a sum is not 0, a term is not 0
 abbrev pub Term : (ℕ → ℕ) → ℕ → ℕ → Type 0
 Term f a n = (r : ℕ) × (a ≤ r) × (r < a + n) × (0 < f r)

@@ -1,9 +1,9 @@
--- Loops through the numbers 1 to n, by what each has yet to pass: one that sums, and one that seeks the lowest number at
--- which a test holds; and what `lowest` then tells.
+-- Loops through the numbers 1 to n, by what each has yet to pass: one that sums, one that folds, and one that seeks the
+-- lowest number at which a test holds; and what `lowest` then tells.
 use Prim.Native.Nat.{ℕ, zero, suc, ◌+◌, ◌*◌, ◌-◌, ◌≤◌, ◌<◌}
 use mathlib.Core.Path.{◌≡◌, refl, sym, ap, ◌∙◌}
 use mathlib.Core.Bool.{Bool, true, false, not, false≢true}
-use mathlib.Core.List.{List, [], ◌∷◌, ◌++◌}
+use mathlib.Core.List.{List, [], ◌∷◌, ◌++◌, foldl}
 use native.Mathlib.Nat.{mul-add}
 use native.Mathlib.Omega.{arith}
 use lib.Dec.{eqb}
@@ -33,6 +33,11 @@ pub record Summing (most : ℕ) (f : ℕ → ℕ) (n sum r : ℕ) : Type 0 where
   pub small : sum ≤ most * (r - 1)
   pub whole : sum + total f (rest r n) ≡ total f (from 1 n)
 
+-- what is left leads from what is in hand to what the whole leads to
+pub record Folding (f : ℕ → ℕ → ℕ) (start n hand r : ℕ) : Type 0 where
+  pub low : 1 ≤ r
+  pub whole : foldl f hand (rest r n) ≡ foldl f start (from 1 n)
+
 -- the test holds at none of the numbers passed: the lowest of what is left is the lowest of all
 pub record Seeking (p : ℕ → Bool) (n r : ℕ) : Type 0 where
   pub low : 1 ≤ r
@@ -54,6 +59,16 @@ module _ {most : ℕ} (f : ℕ → ℕ) (n : ℕ) where
 
   pub summing-ends : {sum r : ℕ} → Summing most f n sum r → n < r → sum ≡ total f (from 1 n)
   summing-ends {sum} {r} s h = let none : total f (rest r n) ≡ 0 = unfold total in rw (rest-none r n h) in omega arith
+
+module _ (f : ℕ → ℕ → ℕ) (start n : ℕ) where
+  pub folding-starts : Folding f start n start 1
+  folding-starts = record { low = omega arith; whole = rw rest-all refl }
+
+  pub folding-goes : {hand r v : ℕ} → Folding f start n hand r → r ≤ n → v ≡ f hand r → Folding f start n v (r + 1)
+  folding-goes {hand} {r} h u e = record { low = omega arith; whole = rw e (ap (foldl f hand) (sym (rest-more r n u)) ∙ h.whole) }
+
+  pub folding-ends : {hand r : ℕ} → Folding f start n hand r → n < r → hand ≡ foldl f start (from 1 n)
+  folding-ends {hand} {r} h u = ap (foldl f hand) (sym (rest-none r n u)) ∙ h.whole
 
 module _ (p : ℕ → Bool) (n : ℕ) where
   pub seeking-goes : {r : ℕ} → Seeking p n r → r ≤ n → p r ≡ false → Seeking p n (r + 1)

@@ -28,7 +28,7 @@ unfolding lockedSet records
 locked-at o i h {b} e = byte-one b ∙ ap one (e ∙ ap (locked o) (omega arith)) ∙ sym (map-at (λ r. one (locked o r)) 1 (size o) i h)
 
 -- zeros after a list read as nothing
-zeros-at : (n i : ℕ) → ◌≡◌ {A = ℕ} (get_or (replicate n 0) i 0) 0
+pub zeros-at : (n i : ℕ) → ◌≡◌ {A = ℕ} (get_or (replicate n 0) i 0) 0
 zeros-at zero i = refl
 zeros-at (suc n) zero = refl
 zeros-at (suc n) (suc i) = zeros-at n i

@@ -7,5 +7,5 @@ pub mod figures;
 mod locks;
 mod marks;
 
-pub use locks::{locked_cost, locks_of};
+pub use locks::{locked_cost, locks_of, mark_locked};
 pub use marks::{marked, measure};

@@ -1,5 +1,5 @@
 // The locked taxa by themselves.
-ghost use Rattle.std.specs.Prelude.{◌≡◌, ◌≤◌};
+ghost use Rattle.std.specs.Prelude.{◌≡◌, ◌≤◌, length};
 ghost use Rattle.lists.specs.Lists.{over};
 ghost use Rattle.outline.specs.Outline.{size};
 ghost use Rattle.outline.specs.WellFormed.{WellFormed};
@@ -12,18 +12,26 @@ use super::marks::{marked, measure};
 use outline::fields::is_locked;
 use outline::limits::MOST_RECORDS;
 
-// Their marks.
-fn lock_marks(o: &[u8]) -> [u8; MOST_RECORDS]
-    requires { size o.now ≤ mostRecords }
-    ensures { result ≡ over (lockedSet o.now) blank }
+// Marks them, and no other record; what is past the records is unchanged.
+pub fn mark_locked(o: &[u8], marks: &mut [u8])
+    requires { size o.now ≤ length marks.old }
+    ensures { marks.new ≡ over (lockedSet o.now) marks.old }
 {
     let n = o.len() / 16;
-    let mut marks = [0; MOST_RECORDS];
     let mut i = 0;
     while i < n {
         marks[i] = is_locked(o, i + 1) as u8;
         i += 1;
     }
+}
+
+// Their marks.
+fn lock_marks(o: &[u8]) -> [u8; MOST_RECORDS]
+    requires { size o.now ≤ mostRecords }
+    ensures { result ≡ over (lockedSet o.now) blank }
+{
+    let mut marks = [0; MOST_RECORDS];
+    mark_locked(o, &mut marks);
     marks
 }
 

@@ -3,8 +3,8 @@ use Rattle.sheet.proofs.outsides.outsides_of.Goals as goal
 
 pub loop-r-preserved : goal.loop-r-preserved
 loop-r-preserved c =
-    onwards-goes c.loop-r.invariant c.requires c.loop-r-test.true c.first_of-first.ensures c.next_of-next.ensures c.place_of.ensures
+    onwards-goes _ c.loop-r.invariant c.requires c.loop-r-test.true c.first_of-first.ensures c.next_of-next.ensures c.place_of.ensures
     c.lower_of-around.ensures c.lower_of.ensures c.lower_of-in-loop-r.ensures
 
 pub returns : goal.returns
-returns c = onwards-ends c.loop-r.invariant c.requires.base.formed.linked c.loop-r-test.false
+returns c = onwards-ends _ c.loop-r.invariant c.requires.base.formed.linked c.loop-r-test.false
