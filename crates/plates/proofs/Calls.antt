@@ -1,5 +1,5 @@
 -- The demands of calls of the C functions, and what is promised of several of them, `plates_write` and `plates_read`, `plates_choose` and
--- `plates_sheet`, `plates_view_buyer` twice: what is promised of the functions behind them, of the numbers that stand in `answer`.
+-- `plates_quick` or `plates_sheet`, `plates_quick` and `plates_view_buyer` twice: what is promised of the functions behind them, of the numbers that stand in `answer`.
 use Prim.Native.Nat.{ℕ, ◌≤◌}
 use mathlib.Core.Path.{◌≡◌, sym, ap, ◌∙◌}
 use mathlib.Core.List.{List}
@@ -18,13 +18,16 @@ use Rattle.writing.proofs.Demands.{demand-1 as writing-decided}
 use Rattle.sheet.specs.Answer as sheet
 use Rattle.sheet.specs.Demands as sheets
 use Rattle.sheet.proofs.Demands.{demand-1 as sheet-decided, choice-listed}
+use Rattle.quick.specs.Answer as quick
+use Rattle.quick.specs.Demands as quicks
+use Rattle.quick.proofs.Demands.{demand-1 as quick-decided, true-choice, picks-made, best-between, more-picks}
 use Rattle.refusals.specs.Refusals.{Ruling}
 use Rattle.refusals.specs.Reply.{granted}
 use Rattle.view.specs.Answer as view
 use Rattle.view.specs.Demands.{ShownOrRefused, BuyersCalls, ViewSuffices, SameBytes}
 use Rattle.view.specs.View.{buyerView}
 use Rattle.view.proofs.Demands.{demand-1 as view-decided, buyers-alike, buyers-alike-whole}
-use Rattle.plates.specs.Interface.{chosenIn, Chosen, listedIn, SheetListed, readIn, TextRead, writtenIn, TextWritten, rulingIn, Viewed}
+use Rattle.plates.specs.Interface.{chosenIn, Chosen, quicklyChosenIn, QuicklyChosen, listedIn, SheetListed, readIn, TextRead, writtenIn, TextWritten, rulingIn, Viewed}
 
 -- each call is given what its table gives, and choosing is true of the marks and finds what the exhaustive search finds
 module _ {c : choose.Call} {n : ℕ} {answer marks curve work : List ℕ} (x : Chosen c n answer marks curve work) where
@@ -36,6 +39,28 @@ module _ {c : choose.Call} {n : ℕ} {answer marks curve work : List ℕ} (x : C
 
   pub chosen-found : n ≡ 0 → choices.FoundBySearch c (chosenIn answer) marks curve
   chosen-found z = demand-3 c x.answered (sym x.number-given ∙ z)
+
+-- so it is with choosing quickly: its marks are a set that fits, with its own numbers; its picks are made; the best diversity, as a call of
+-- `plates_choose` is told it, lies from its diversity to its ceiling; and more picks never lower its diversity
+module _ {c : quick.Call} {n : ℕ} {answer : List ℕ} {ceiling : ℕ} {marks : List ℕ} (x : QuicklyChosen c n answer ceiling marks) where
+  pub quickly-decided : quicks.ChosenOrRefused c (quicklyChosenIn ceiling answer) marks
+  quickly-decided = quick-decided c x.answered
+
+  module _ (z : n ≡ 0) where
+    pub quickly-true : quicks.TrueChoice c (quicklyChosenIn ceiling answer) marks
+    quickly-true = true-choice c x.answered (sym x.number-given ∙ z)
+
+    pub quickly-picked : quicks.PicksMade c (quicklyChosenIn ceiling answer) marks
+    quickly-picked = picks-made c x.answered (sym x.number-given ∙ z)
+
+    pub quickly-between : {d : choose.Call} → quicks.SameChoice c d → {m : ℕ} {answer' marks' curve work : List ℕ}
+        → Chosen d m answer' marks' curve work → m ≡ 0 → quicks.BestBetween (quicklyChosenIn ceiling answer) (chosenIn answer')
+    quickly-between {d} same y e = best-between c x.answered (sym x.number-given ∙ z) d same y.answered (sym y.number-given ∙ e)
+
+    pub quickly-more : {d : quick.Call} → quicks.MorePicks c d → {m : ℕ} {answer' : List ℕ} {ceiling' : ℕ} {marks' : List ℕ}
+        → QuicklyChosen d m answer' ceiling' marks' → m ≡ 0
+        → (quicklyChosenIn ceiling answer).figures.diversity ≤ (quicklyChosenIn ceiling' answer').figures.diversity
+    quickly-more {d} more y e = more-picks c d more x.answered (sym x.number-given ∙ z) y.answered (sym y.number-given ∙ e)
 
 pub listed-decided : {c : sheet.Call} {n : ℕ} {answer lent : List ℕ} → SheetListed c n answer lent
     → sheets.ListedOrRefused c (listedIn answer) lent

@@ -1,6 +1,7 @@
 -- What the C interface gives: the numbers that are returned and written, and what is left in the memory that was lent.
 use Rattle.std.specs.Prelude.{ℕ, ◌≡◌, List, length, get_or}
 use Rattle.choice.specs.Answer as choose
+use Rattle.quick.specs.Answer as quick
 use Rattle.reading.specs.Answer as read
 use Rattle.writing.specs.Answer as write
 use Rattle.refusals.specs.Refusals.{Ruling, ruling}
@@ -28,6 +29,14 @@ chosenIn answer =
 -- a call is answered by them as `choose` answers it
 abbrev pub Chosen : choose.Call → ℕ → List ℕ → List ℕ → List ℕ → List ℕ → Type 0
 Chosen c number answer marks curve work = Given 6 chosenIn (λ r. choose.Answered c r marks curve work) number answer
+
+-- the five numbers of a quick choice, with the ceiling that is written beside them
+abbrev pub quicklyChosenIn : ℕ → List ℕ → Reply quick.Figures
+quicklyChosenIn ceiling answer = replyIn answer (quick.tellings (get_or answer 2 0) (get_or answer 3 0) (get_or answer 4 0) ceiling)
+
+-- a call is answered by them as `quick` answers it
+abbrev pub QuicklyChosen : quick.Call → ℕ → List ℕ → ℕ → List ℕ → Type 0
+QuicklyChosen c number answer ceiling marks = Given 5 (quicklyChosenIn ceiling) (λ r. quick.Answered c r marks) number answer
 
 -- the five numbers of a sheet
 abbrev pub listedIn : List ℕ → Reply sheet.Figures

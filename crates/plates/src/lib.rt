@@ -1,5 +1,5 @@
-// The C interface: checking an outline, finding a plate's record, choosing, listing a marked set, reading a tree from text, writing it
-// as text, and showing an outline to a house reader and to a buyer's, over memory that the caller lends.
+// The C interface: checking an outline, finding a plate's record, choosing, choosing quickly, listing a marked set, reading a tree from
+// text, writing it as text, and showing an outline to a house reader and to a buyer's, over memory that the caller lends.
 // include/plates.h declares these functions.
 #![tactic(auto)]
 
@@ -9,14 +9,16 @@ ghost use Rattle.outline.specs.Answer.{checked, foundAt};
 ghost use Rattle.reading.specs.Answer.{call as reading};
 ghost use Rattle.writing.specs.Answer.{call as writing};
 ghost use Rattle.choice.specs.Answer.{call};
+ghost use Rattle.quick.specs.Answer.{call as picking};
 ghost use Rattle.sheet.specs.Answer.{call as listing};
 ghost use Rattle.view.specs.Answer.{call as viewing};
 ghost use Rattle.view.specs.View.{houseView, buyerView};
-ghost use Rattle.plates.specs.Interface.{Given, Chosen, SheetListed, TextRead, TextWritten, rulingIn, Viewed};
+ghost use Rattle.plates.specs.Interface.{Given, Chosen, QuicklyChosen, SheetListed, TextRead, TextWritten, rulingIn, Viewed};
 ghost use Rattle.outline.specs.Rules.{mostRecords};
 
 use choice::{Answer, choose};
 use outline::{check, find_record};
+use quick::{Answer as Quick, quick};
 use reading::{Answer as Reading, read};
 use refusals::verdict::{Verdict, number_of, place_of};
 use sheet::{Answer as Listing, sheet as list};
@@ -76,6 +78,41 @@ pub extern "C" fn plates_choose(
         Answer::Refused(refusal) => {
             let number = number_of(refusal);
             *answer = [number, place_of(refusal) as u32, 0, 0, 0, 0];
+            number
+        }
+    }
+}
+
+// Chooses quickly, and writes number, place, diversity, cost and number of taxa, and beside them the ceiling; the number is given as well.
+#[unsafe(no_mangle)]
+pub extern "C" fn plates_quick(
+    outline: &[u8],
+    count: u32,
+    picks: u32,
+    marks: &mut [u8],
+    answer: &mut [u32; 5],
+    ceiling: &mut u64,
+) -> u32
+    ensures { QuicklyChosen
+        (picking outline.now count picks marks.old)
+        result answer.new ceiling.new marks.new }
+{
+    match quick(outline, count, picks, marks) {
+        Quick::Chosen {
+            diversity,
+            cost,
+            taxa,
+            ceiling: most,
+        } => {
+            *answer = [0, 0, diversity, cost, taxa];
+            *ceiling = most;
+            0
+        }
+        Quick::Refused(refusal) => {
+            let number = number_of(refusal);
+            let place = place_of(refusal) as u32;
+            *answer = [number, place, 0, 0, 0];
+            *ceiling = 0;
             number
         }
     }

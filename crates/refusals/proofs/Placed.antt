@@ -12,7 +12,7 @@ use Rattle.refusals.specs.Refusals.{Ruling, ruling, passed, row, rowAt, ◌▸�
 
 -- the last number of the table
 abbrev pub mostNumber : ℕ
-mostNumber = 14
+mostNumber = 15
 
 -- the number is one of the table's, and the place at most so many
 pub record Placed (most : ℕ) (t : Ruling) : Type 0 where

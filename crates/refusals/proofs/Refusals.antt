@@ -28,6 +28,7 @@ refusal-numbered Refusal.BadPairs = omega arith
 refusal-numbered Refusal.LockedTooDear = omega arith
 refusal-numbered (Refusal.Unwritable r) = omega arith
 refusal-numbered (Refusal.BadMarks r) = omega arith
+refusal-numbered Refusal.TooManyPicks = omega arith
 
 pub refusal-not-zero : (e : Refusal) → eqb (refusal e).number 0 ≡ false
 refusal-not-zero e = ne_eqb (refusal e).number 0 (λ z. omega (arith, refusal-numbered e))
@@ -47,7 +48,8 @@ refusalAt t =
     else (if eqb t.number 10 then Refusal.BadText
     else (if eqb t.number 11 then Refusal.BadPairs
     else (if eqb t.number 12 then Refusal.LockedTooDear
-    else (if eqb t.number 13 then Refusal.Unwritable t.place else Refusal.BadMarks t.place))))))))))))
+    else (if eqb t.number 13 then Refusal.Unwritable t.place
+    else (if eqb t.number 14 then Refusal.BadMarks t.place else Refusal.TooManyPicks)))))))))))))
 
 refusal-at : (e : Refusal) → refusalAt (refusal e) ≡ e
 unfolding refusalAt
@@ -65,6 +67,7 @@ refusal-at Refusal.BadPairs = refl
 refusal-at Refusal.LockedTooDear = refl
 refusal-at (Refusal.Unwritable r) = refl
 refusal-at (Refusal.BadMarks r) = refl
+refusal-at Refusal.TooManyPicks = refl
 
 -- the number and the place determine the refusal
 pub refusal-determined : (d e : Refusal) → refusal d ≡ refusal e → d ≡ e

@@ -19,6 +19,7 @@ pub enum Refusal {
     LockedTooDear,
     Unwritable(usize),
     BadMarks(usize),
+    TooManyPicks,
 }
 
 #[derive(Clone, Copy)]
@@ -46,6 +47,7 @@ pub fn number_of(refusal: Refusal) -> u32
         Refusal::LockedTooDear => 12,
         Refusal::Unwritable(_) => 13,
         Refusal::BadMarks(_) => 14,
+        Refusal::TooManyPicks => 15,
     }
 }
 
@@ -68,5 +70,6 @@ pub fn place_of(refusal: Refusal) -> usize
         Refusal::LockedTooDear => 0,
         Refusal::Unwritable(r) => r,
         Refusal::BadMarks(r) => r,
+        Refusal::TooManyPicks => 0,
     }
 }

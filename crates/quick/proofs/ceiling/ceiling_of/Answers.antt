@@ -1,0 +1,24 @@
+-- `quick::ceiling::ceiling_of` meets its contract.
+use Rattle.std.proofs.Common.{arith}
+use Rattle.quick.specs.Quick.{ceiling}
+use Rattle.quick.proofs.Bounds.{diversity-bound, parts-most}
+use Rattle.quick.proofs.ceiling.ceiling_of.Goals as goal
+
+pub overflow_add-result : goal.overflow_add-result
+overflow_add-result c =
+    let o = c.args.o.now in
+    let formed = c.requires.ready.base.base.formed in
+    record {
+      fits = omega (
+        arith,
+        c.requires.diversity-is,
+        diversity-bound o formed c.args.marks.now,
+        formed.size-most,
+        c.parts_of.ensures,
+        parts-most o formed c.args.count c.args.marks.now,
+      );
+    }
+
+pub returns : goal.returns
+unfolding ceiling
+returns c = rw (← c.requires.diversity-is, c.parts_of.ensures)

@@ -1,0 +1,182 @@
+-- What the functions behind `quick` speak of: the way up from each record, the records that a set holds, what the others would add, and picks.
+use Rattle.std.specs.Prelude.{if◌then◌else◌, ℕ, ◌+◌, ◌≤◌, ◌<◌, ◌^◌, ◌≡◌, ◌⊎◌, Bool, ◌||◌, ◌&&◌, not, List, length, get_or, set, replicate, eqb, ltb, leb}
+use Rattle.lists.specs.Lists.{one}
+use Rattle.refusals.specs.Reply.{Reply, granted}
+use Rattle.outline.specs.Inner.{numbers}
+use Rattle.outline.specs.Outline.{size, branch, price, isTaxon, IsRecord}
+use Rattle.outline.specs.WellFormed.{WellFormed}
+use Rattle.outline.specs.Rules.{mostRecords}
+use Rattle.diversity.specs.Diversity.{chosen, within, diversity, cost}
+use Rattle.diversity.specs.Behind.{IsSet, Fits}
+use Rattle.diversity.specs.Paths.{Parent}
+use Rattle.laws.specs.Locks.{lockedSet}
+use Rattle.quick.specs.Quick.{added, addedCost, inHand, picked, afterPicks, quick}
+use Rattle.quick.specs.Answer.{Figures, figuresOf}
+use Rattle.quick.specs.declared.picker.Pick.{Pick}
+use Rattle.quick.specs.declared.sums.Sums.{Sums}
+
+-- ---- the way up
+-- a table has the parent of each record
+pub record Parents (o parents : List ℕ) : Type 0 where
+  pub long : length parents ≡ numbers
+  pub at-record : (r : ℕ) → IsRecord o r → Parent o (get_or parents r 0) r
+
+-- of the records up to n each has its parent before it
+abbrev pub Earlier : ℕ → List ℕ → Type 0
+Earlier n parents = (r : ℕ) → 1 ≤ r → r ≤ n → get_or parents r 0 < r
+
+-- r is on the way up from t that a table leads
+pub data Up (parents : List ℕ) (t : ℕ) : ℕ → Type 0 where
+  itself : Up parents t t
+  onward : {q : ℕ} → Up parents t q → 1 ≤ q → Up parents t (get_or parents q 0)
+
+-- ---- what a set holds
+-- a table has 1 for the records that have a taxon of the set at or below them, and 0 for the others
+pub record HeldIn (o s held : List ℕ) : Type 0 where
+  pub long : length held ≡ numbers
+  pub at-record : (r : ℕ) → IsRecord o r → get_or held r 0 ≡ one (within o s r)
+
+-- a way up that can be gone: above a record that is held each is held
+pub record Rising (parents : List ℕ) (t : ℕ) (held : List ℕ) : Type 0 where
+  pub small : t < numbers
+  pub earlier : Earlier t parents
+  pub long : length held ≡ numbers
+  pub closed : (r : ℕ) → 1 ≤ r → r ≤ t → get_or held r 0 ≡ 1 → 1 ≤ get_or parents r 0 → get_or held (get_or parents r 0) 0 ≡ 1
+
+-- record r is on the way up from t and has 1; or it has what it had, and if it is on that way, then P
+abbrev pub JoinedAt : List ℕ → ℕ → List ℕ → List ℕ → ℕ → Type 0 → Type 0
+JoinedAt parents t old new r P = (Up parents t r × (get_or new r 0 ≡ 1)) ⊎ ((Up parents t r → P) × (get_or new r 0 ≡ get_or old r 0))
+
+-- 1 stands on the way up, and elsewhere what stood there
+pub record Joined (parents : List ℕ) (t : ℕ) (old new : List ℕ) : Type 0 where
+  pub long : length new ≡ length old
+  pub each : (r : ℕ) → 1 ≤ r → JoinedAt parents t old new r (get_or old r 0 ≡ 1)
+
+-- an accepted outline, and the marks of a set of taxa, one for each record
+pub record Markable (o s : List ℕ) : Type 0 where
+  pub formed : WellFormed o
+  pub is-set : IsSet o s
+
+-- with the way up from each record
+pub record Countable (o s parents : List ℕ) : Type 0 where
+  pub base : Markable o s
+  pub parents-are : Parents o parents
+
+-- and the records that the set holds
+pub record Pickable (o s parents held : List ℕ) : Type 0 where
+  pub base : Countable o s parents
+  pub held-are : HeldIn o s held
+
+-- ---- what a record would add
+-- a table has the gains of the records before r, and nothing else
+pub record GainsUpTo (gain : ℕ → ℕ) (r : ℕ) (table : List ℕ) : Type 0 where
+  pub long : length table ≡ numbers
+  pub none : get_or table 0 0 ≡ 0
+  pub before : (q : ℕ) → 1 ≤ q → q < r → get_or table q 0 ≡ gain q
+  pub rest : (q : ℕ) → r ≤ q → get_or table q 0 ≡ 0
+
+-- in diversity, and in quarters
+pub record SumsUpTo (o s : List ℕ) (r : ℕ) (sums : Sums) : Type 0 where
+  pub added-are : GainsUpTo (added o s) r sums.added
+  pub costs-are : GainsUpTo (addedCost o s) r sums.costs
+
+-- nothing yet
+pub record Nothing (sums : Sums) : Type 0 where
+  pub added-are : sums.added ≡ replicate numbers 0
+  pub costs-are : sums.costs ≡ replicate numbers 0
+
+-- both tables have a number for each record
+pub record SumsLong (sums : Sums) : Type 0 where
+  pub added-long : length sums.added ≡ numbers
+  pub costs-long : length sums.costs ≡ numbers
+
+-- record r's branch and price can be added to what its parent adds
+pub record CanAdd (o parents : List ℕ) (sums : Sums) (r : ℕ) : Type 0 where
+  pub few : size o ≤ mostRecords
+  pub is-record : IsRecord o r
+  pub parent-before : get_or parents r 0 < r
+  pub lengths : SumsLong sums
+  pub added-fits : get_or sums.added (get_or parents r 0) 0 + branch o r < 2 ^ 32
+  pub costs-fit : get_or sums.costs (get_or parents r 0) 0 + price o r < 2 ^ 32
+
+-- and are
+pub record AddedUp (o parents : List ℕ) (r : ℕ) (old new : Sums) : Type 0 where
+  pub added-set : new.added ≡ set old.added r (get_or old.added (get_or parents r 0) 0 + branch o r)
+  pub costs-set : new.costs ≡ set old.costs r (get_or old.costs (get_or parents r 0) 0 + price o r)
+
+-- ---- one pick
+-- t is picked rather than u, by what they add
+abbrev pub ratherBy : ℕ → ℕ → ℕ → ℕ → ℕ → ℕ → Bool
+ratherBy at au ct cu t u = ltb au at || (eqb at au && (ltb ct cu || (eqb ct cu && ltb t u)))
+
+-- two tables have what record t would add
+abbrev pub Known : List ℕ → List ℕ → Sums → ℕ → Type 0
+Known o s sums t = (get_or sums.added t 0 ≡ added o s t) × (get_or sums.costs t 0 ≡ addedCost o s t)
+
+pub record KnownAt (o s : List ℕ) (sums : Sums) (t : ℕ) : Type 0 where
+  pub base : Markable o s
+  pub is-record : IsRecord o t
+  pub lengths : SumsLong sums
+  pub known : Known o s sums t
+
+-- and what the record in hand would, if one is
+pub record HandAt (o s : List ℕ) (sums : Sums) (hand t : ℕ) : Type 0 where
+  pub at : KnownAt o s sums t
+  pub hand-most : hand ≤ size o
+  pub hand-known : 1 ≤ hand → Known o s sums hand
+
+-- record r is the next to be looked at
+pub record LookAt (o s parents held : List ℕ) (sums : Sums) (hand r : ℕ) : Type 0 where
+  pub ready : Pickable o s parents held
+  pub is-record : IsRecord o r
+  pub sums-are : SumsUpTo o s r sums
+  pub hand-before : hand < r
+
+-- it was, and v is in hand
+pub record LookedAt (o s : List ℕ) (b : ℕ) (sums : Sums) (hand r v : ℕ) : Type 0 where
+  pub hand-is : v ≡ inHand o b s hand r
+  pub sums-are : SumsUpTo o s (r + 1) sums
+
+-- the next pick, and the quarters that it adds
+pub record NextPick (o : List ℕ) (b : ℕ) (s : List ℕ) (p : Pick) : Type 0 where
+  pub taxon-is : p.taxon ≡ picked o b s
+  pub taxon-most : p.taxon ≤ size o
+  pub quarters-are : 1 ≤ p.taxon → p.quarters ≡ addedCost o s p.taxon
+
+-- ---- the picks
+-- a set that fits page count b
+pub record PicksFit (o parents : List ℕ) (b : ℕ) (s held : List ℕ) : Type 0 where
+  pub ready : Pickable o s parents held
+  pub fits : Fits o b s
+
+-- the set after at most k picks
+pub record PicksDone (o : List ℕ) (b k : ℕ) (s after held : List ℕ) : Type 0 where
+  pub set-is : after ≡ afterPicks o b k s
+  pub held-are : HeldIn o after held
+
+-- ---- the ceiling
+-- what record t counts for in it
+abbrev pub ceilingPart : List ℕ → ℕ → List ℕ → ℕ → ℕ
+ceilingPart o b s t = if isTaxon o t && (not (chosen s t) && leb (price o t) b) then added o s t else 0
+
+-- record r was looked at, and counts for v
+pub record PartAt (o : List ℕ) (b : ℕ) (s : List ℕ) (sums : Sums) (r v : ℕ) : Type 0 where
+  pub part-is : v ≡ ceilingPart o b s r
+  pub sums-are : SumsUpTo o s (r + 1) sums
+
+-- a marked set, with its diversity
+pub record Bounded (o s parents held : List ℕ) (d : ℕ) : Type 0 where
+  pub ready : Pickable o s parents held
+  pub diversity-is : d ≡ diversity o 0 s
+
+-- ---- a choice
+-- a mark for each record, and locked taxa that fit
+pub record Fillable (o : List ℕ) (b : ℕ) (marks : List ℕ) : Type 0 where
+  pub formed : WellFormed o
+  pub long : length marks ≡ size o
+  pub locked-fit : cost o (lockedSet o) ≤ b
+
+-- what marking and measuring the choice gives
+pub record Filled (o : List ℕ) (b k : ℕ) (r : Reply Figures) (marks : List ℕ) : Type 0 where
+  pub told-granted : r ≡ granted (figuresOf o b (quick o b k))
+  pub marks-are : marks ≡ quick o b k

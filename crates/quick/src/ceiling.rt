@@ -1,0 +1,71 @@
+// The ceiling of a set: its diversity, and what each other taxon of price at most the page count would add to it by itself.
+ghost use Rattle.std.specs.Prelude.{◌≡◌};
+ghost use Rattle.lists.specs.Lists.{total};
+ghost use Rattle.outline.specs.Outline.{records};
+ghost use Rattle.quick.specs.Quick.{ceiling};
+ghost use Rattle.quick.specs.Inner.{ceilingPart, LookAt, PartAt, Pickable, Bounded};
+
+use super::sums::{Sums, add_up, nothing};
+use outline::fields::{is_taxon, price_of};
+use outline::limits::NUMBERS;
+
+// What record r counts for. One that is held adds nothing.
+fn part_at(
+    o: &[u8],
+    marks: &[u8],
+    parents: &[usize; NUMBERS],
+    held: &[u8; NUMBERS],
+    count: u32,
+    sums: &mut Sums,
+    r: usize,
+) -> u32
+    requires { LookAt o.now marks.now parents.now held.now sums.old 0 r }
+    ensures { PartAt o.now count marks.now sums.new r result }
+{
+    if held[r] == 1 {
+        return 0;
+    }
+    add_up(o, parents, sums, r);
+    let open = marks[r - 1] != 1;
+    if is_taxon(o, r) & (open & (price_of(o, r) <= count)) {
+        return sums.added[r];
+    }
+    0
+}
+
+// What all records count for.
+fn parts_of(
+    o: &[u8],
+    marks: &[u8],
+    parents: &[usize; NUMBERS],
+    held: &[u8; NUMBERS],
+    count: u32,
+) -> u64
+    requires { Pickable o.now marks.now parents.now held.now }
+    ensures { result ≡ total (ceilingPart o.now count marks.now) (records o.now) }
+{
+    let n = o.len() / 16;
+    let mut sums = nothing();
+    let mut sum = 0;
+    let mut r = 1;
+    while r <= n {
+        sum += part_at(o, marks, parents, held, count, &mut sums, r) as u64;
+        r += 1;
+    }
+    sum
+}
+
+// The ceiling of a marked set whose diversity is known.
+pub fn ceiling_of(
+    o: &[u8],
+    marks: &[u8],
+    parents: &[usize; NUMBERS],
+    held: &[u8; NUMBERS],
+    count: u32,
+    diversity: u32,
+) -> u64
+    requires { Bounded o.now marks.now parents.now held.now diversity }
+    ensures { result ≡ ceiling o.now count marks.now }
+{
+    diversity as u64 + parts_of(o, marks, parents, held, count)
+}

@@ -1,0 +1,15 @@
+// A quick choice, for while the count is being turned: the locked taxa, then at most so many picks, with a ceiling that the best
+// diversity is never above. Nothing is asked of the caller.
+#![tactic(auto)]
+
+pub mod answer;
+mod ceiling;
+mod chooser;
+mod judge;
+mod picker;
+mod picks;
+mod sums;
+mod ways;
+
+pub use answer::Answer;
+pub use chooser::quick;

@@ -1,0 +1,34 @@
+// Making the picks, one after the other.
+ghost use Rattle.std.specs.Prelude.{◌≡◌};
+ghost use Rattle.quick.specs.Inner.{PicksFit, PicksDone};
+
+use super::picker::next_pick;
+use super::ways::hold;
+use measures::measure;
+use outline::limits::NUMBERS;
+
+// Makes at most so many picks.
+pub fn make_picks(
+    o: &[u8],
+    parents: &[usize; NUMBERS],
+    count: u32,
+    picks: u32,
+    marks: &mut [u8],
+    held: &mut [u8; NUMBERS],
+)
+    requires { PicksFit o.now parents.now count marks.old held.old }
+    ensures { PicksDone o.now count picks marks.old marks.new held.new }
+{
+    let mut spent = measure(o, marks, 0).cost;
+    let mut left = picks;
+    while left != 0 {
+        let pick = next_pick(o, marks, parents, held, count - spent);
+        if pick.taxon == 0 {
+            return;
+        }
+        marks[pick.taxon - 1] = 1;
+        hold(parents, held, pick.taxon);
+        spent += pick.quarters;
+        left -= 1;
+    }
+}
