@@ -28,6 +28,12 @@ impl Buffers {
             work: vec![0; work],
         }
     }
+
+    /// `plates_choose` with the whole of each.
+    pub fn choose(&mut self, outline: &[u8], count: u32, way: u32) -> [u32; 6] {
+        let Buffers { marks, curve, work } = self;
+        library::choose(outline, count, way, marks, curve, work)
+    }
 }
 
 /// `plates_choose` of a build: outline, count, way, marks, curve and work are handed over, and the answer is given.

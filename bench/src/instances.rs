@@ -40,6 +40,18 @@ pub fn shapes_at_full_size() -> Vec<Instance> {
     list
 }
 
+/// The same with a fourth of the prices: all taxa together fit the count.
+pub fn shapes_that_fit() -> Vec<Instance> {
+    let mut list = shapes_at_full_size();
+    for instance in &mut list {
+        instance.name += ", all fit";
+        for record in &mut instance.records {
+            record.price /= 4;
+        }
+    }
+    list
+}
+
 /// Balanced and random trees of 8, 16, 32 and 64 taxa; fewer taxa are dearer, so that all of them cost about as much.
 pub fn sizes() -> Vec<Instance> {
     let mut list = Vec::new();

@@ -1,6 +1,7 @@
-//! Measures `plates_choose` beside clearing `work`, IQ-TREE 2, GLPK and two tables in Rust, and `plates_read`, `plates_write`,
-//! `plates_sheet` and both views beside a plain reader, writer, lister and viewer in Rust, and prints the times in Markdown. With
-//! `--beside` it measures `plates_choose` beside another build's instead, to see what a change costs.
+//! Measures `plates_choose` beside clearing `work`, IQ-TREE 2, GLPK and two tables in Rust, `plates_read`, `plates_write`,
+//! `plates_sheet` and both views beside a plain reader, writer, lister and viewer in Rust, and `plates_quick` beside a plain picker
+//! and `plates_choose`, and prints the times in Markdown. With `--picks` it measures only the last of these, and with `--beside`
+//! `plates_choose` beside another build's instead, to see what a change costs.
 
 mod beside;
 mod case;
@@ -10,6 +11,8 @@ mod iqtree;
 mod lister;
 mod listing;
 mod machine;
+mod picker;
+mod picking;
 mod plain;
 mod reader;
 mod reading;
@@ -26,6 +29,7 @@ use beside::Build;
 use case::{Buffers, Case};
 use instances::COUNT;
 use listing::Listing;
+use picking::{Agreement, Picking};
 use reading::Reading;
 use report::Missing;
 use scratch::Scratch;
@@ -35,8 +39,9 @@ use viewing::Viewing;
 use writing::Writing;
 
 const USAGE: &str = "\
-bench [--quick | --beside OTHER THIS]
+bench [--quick | --picks | --beside OTHER THIS]
   --quick              fewer runs, without GLPK and the tables
+  --picks              only plates_quick beside a plain picker and plates_choose
   --beside OTHER THIS  only plates_choose of two builds, OTHER and THIS being shared objects;
                        `make bench-beside BESIDE=libplates.a` makes them of static libraries and runs this";
 const RECORDS: usize = 127;
@@ -65,6 +70,7 @@ fn main() -> ExitCode {
     let done = match arguments.iter().map(String::as_str).collect::<Vec<_>>()[..] {
         [] => run(&Plan::new(false)),
         ["--quick"] => run(&Plan::new(true)),
+        ["--picks"] => run_picks(&Plan::new(false)),
         ["--beside", other, this] => run_beside(Path::new(other), Path::new(this)),
         _ => {
             eprintln!("{USAGE}");
@@ -86,6 +92,8 @@ fn run(plan: &Plan) -> Result<(), String> {
     println!("GLPK: {}\n", machine::version(glpk::PROGRAM, "--version"));
     let scratch = Scratch::new().map_err(|error| error.to_string())?;
     let mut buffers = Buffers::new(RECORDS, COUNT);
+    // First, since a difference there ends the benchmark.
+    let (pickings, picked) = pickings(plan, &mut buffers)?;
     let mut groups = groups();
     let mut sizes = size_cases();
     let all = groups.iter_mut().flatten().chain(&mut sizes);
@@ -105,6 +113,14 @@ fn run(plan: &Plan) -> Result<(), String> {
     report::writings(&writings);
     report::listings(&listings);
     report::viewings(&viewings, agreement);
+    report::pickings(&pickings, &picked);
+    Ok(())
+}
+
+fn run_picks(plan: &Plan) -> Result<(), String> {
+    println!("Machine: {}\n", machine::description());
+    let (pickings, picked) = pickings(plan, &mut Buffers::new(RECORDS, COUNT))?;
+    report::pickings(&pickings, &picked);
     Ok(())
 }
 
@@ -164,8 +180,17 @@ fn measure(
     Ok(())
 }
 
-/// The readings, the writings, the listings or the viewings, with their times.
-fn measured<T>(plan: &Plan, mut all: Vec<T>, measure: impl Fn(&mut T)) -> Vec<T> {
+/// The pickings with their times, and what was compared before.
+fn pickings(plan: &Plan, buffers: &mut Buffers) -> Result<(Vec<Picking>, Agreement), String> {
+    let all = picking::all();
+    let agreement = picking::agreement(&all, buffers)?;
+    let all = measured(plan, all, Picking::measure);
+    let all = measured(plan, all, |picking| picking.measure_choosing(buffers));
+    Ok((all, agreement))
+}
+
+/// The readings, the writings, the listings, the viewings or the pickings, with their times.
+fn measured<T>(plan: &Plan, mut all: Vec<T>, mut measure: impl FnMut(&mut T)) -> Vec<T> {
     for _ in 0..plan.rounds {
         for one in &mut all {
             (0..plan.calls).for_each(|_| measure(one));

@@ -4,6 +4,7 @@ use crate::beside::Pair;
 use crate::case::Case;
 use crate::glpk;
 use crate::listing::{self, Listing};
+use crate::picking::{Agreement, Picking};
 use crate::reading::{self, Reading};
 use crate::times::{digits, microseconds, milliseconds, Times};
 use crate::viewing::Viewing;
@@ -69,6 +70,15 @@ Medians in microseconds. The plain viewer is Rust. It copies the bytes and, for 
 and locks; it gives the same refusals, but the check of the outline is that of plates, whose time by itself is the last column. All
 are called in turn, after their answers and views were compared; \"times\" says how many times as long plates takes. The outlines are
 those of the first table. The last view is refused with 9.
+";
+
+const PICKING: &str = "\
+Microseconds. plates is `plates_quick`. The plain picker is Rust. For each pick it goes over the records once, hands down from the
+groups to their members what a choice would add, and takes the best of the taxa that fit; it gives the same refusals, but the check
+of the outline is that of plates, whose median by itself is the last column. These are called in turn, after answers, ceilings and
+marks were compared. `plates_choose`, rooted and with the same count, is called in rounds of its own, since it clears up to 17 MB.
+Ratios are those of the medians. The outlines are those of the first table; with \"all fit\" the prices are a fourth, so that all taxa
+together fit the count. \"taxa\" says how many are picked.
 ";
 
 const BUILDS: &str = "\
@@ -406,6 +416,57 @@ fn viewing_row(viewing: &Viewing) -> Vec<String> {
         row.push(ratio(times[0], times[1]));
     }
     row.push(in_microseconds(viewing.check.median()));
+    row
+}
+
+pub fn pickings(pickings: &[Picking], agreement: &Agreement) {
+    println!("### Quick choices\n\n{PICKING}");
+    let head = words([
+        "outline",
+        "records",
+        "count",
+        "picks",
+        "taxa",
+        "plates shortest",
+        "plates median",
+        "plain shortest",
+        "plain median",
+        "plates / plain",
+        "choose shortest",
+        "choose median",
+        "choose / plates",
+        "check",
+    ]);
+    let rows: Vec<_> = pickings.iter().map(picking_row).collect();
+    print_table(&head, &rows);
+    print_agreement("plain picker", [agreement.answers, 0]);
+    println!(
+        "Best diversities from that of the picked set to the ceiling: {}, others: 0.\n",
+        agreement.bests
+    );
+}
+
+fn picking_row(picking: &Picking) -> Vec<String> {
+    let in_microseconds = |time: Option<f64>| time.map_or(String::new(), microseconds);
+    let (plates, plain, choosing) = (&picking.plates, &picking.plain, &picking.choosing);
+    let times = [
+        plates.shortest(),
+        plates.median(),
+        plain.shortest(),
+        plain.median(),
+    ];
+    let mut row = vec![
+        picking.name.clone(),
+        picking.records.to_string(),
+        picking.count.to_string(),
+        picking.picks.to_string(),
+        picking.taxa.to_string(),
+    ];
+    row.extend(times.map(in_microseconds));
+    row.push(ratio(times[1], times[3]));
+    row.extend([choosing.shortest(), choosing.median()].map(in_microseconds));
+    row.push(ratio(choosing.median(), times[1]));
+    row.push(in_microseconds(picking.check.median()));
     row
 }
 
