@@ -4,15 +4,17 @@
  * Plates chooses which species plates go into a field guide of a given page count, so that they show as much of the family
  * tree as the space allows. The caller hands over the tree with a length for each branch, a price for each plate and for each
  * group's heading, and a page count, and may lock species that must be in the guide. The library gives the best set of plates
- * for that count, and for every smaller count the best that can be reached. It is not a heuristic: among all the sets that fit,
- * no other is better. In the literature the problem is called phylogenetic diversity under a budget (Pardi and Goldman,
- * Systematic Biology 56(3), 2007).
+ * for that count, and for every smaller count the best that can be reached. That is not a heuristic: among all the sets that
+ * fit, no other is better. While a page count is still being turned, a quick choice can be had: it may be poorer than the best,
+ * and tells by how much at most. In the literature the problem is called phylogenetic diversity under a budget (Pardi and
+ * Goldman, Systematic Biology 56(3), 2007).
  *
  *     plates_read         the outline of a tree in Newick form
  *     plates_write        an outline's tree in Newick form again
  *     plates_check        whether an outline is sound, and if not what is wrong and where
  *     plates_find         the record of the taxon that has a given plate
  *     plates_choose       the best taxa for a page count
+ *     plates_quick        a quick choice for a page count that is still being turned, with a ceiling for the best
  *     plates_sheet        the taxa of a set, with the quarters and the diversity that each adds
  *     plates_view_house   an outline as a house reader gets it, as it is
  *     plates_view_buyer   an outline as a buyer's reader gets it, without prices and locks
@@ -29,6 +31,8 @@
  *     locked     said of a taxon that must be in the guide, such as a species on its jacket: every choice has it
  *     outline    the tree, as an array of records
  *     marks      a set of taxa, as a number for each record: 1 for a taxon of the set, 0 for every other record
+ *     pick       one step of a quick choice: a taxon is added to the set
+ *     ceiling    a number that comes with a quick choice, and that the best diversity is never above
  *     sheet      the taxa of a set in record order, each with its plate, the quarters and the diversity that it adds
  *     view       an outline as a reader gets it: as it is for a house reader, who may see prices and locks, and without these
  *                for a buyer's reader, who may not
@@ -60,7 +64,8 @@
  * in, and at most N. Each record but record 1 is named by exactly one link. A group may have any number of members, one
  * included. Numbering the records depth first, each group before its members, always gives such links.
  *
- * The order of the records matters in one way only: between sets that are equal otherwise, it decides (see below).
+ * The order of the records matters in one way only: between sets that are equal otherwise it decides, and in a quick choice
+ * between taxa that are (see below).
  *
  * Example, "tree A". The number on a branch is its length, the one in brackets is the record's:
  *
@@ -146,12 +151,12 @@
  *     2. at equal diversity the one that costs less;
  *     3. at equal cost too, the one that has the lowest-numbered taxon on which they differ.
  *
- * So there is exactly one best set for each outline, way and count that a set fits, and every call gives it. It has all locked
- * taxa, whatever they cost. A taxon of price 0 is always chosen where all groups above it have price 0 too. Where no taxon is
- * locked the best set may be empty: that is a selection too, and not a refusal.
+ * So there is exactly one best set for each outline, way and count that a set fits, and plates_choose gives it in every call.
+ * It has all locked taxa, whatever they cost. A taxon of price 0 is always in it where all groups above it have price 0 too.
+ * Where no taxon is locked the best set may be empty: that is a selection too, and not a refusal.
  *
- * No set fits a count below the cost of the locked taxa themselves, with the headings above them. Choosing for such a count is
- * refused (12); in the curve of a larger count it has diversity 0 and cost 4,294,967,295.
+ * No set fits a count below the cost of the locked taxa themselves, with the headings above them. Choosing for such a count,
+ * quickly or not, is refused (12); in the curve of a larger count it has diversity 0 and cost 4,294,967,295.
  *
  * In tree A with 5 quarters, rooted, the best set is plates 11 and 13: diversity 3 + 4 + 5 = 12, cost 3 + 2 = 5. For the
  * counts from 0 to 5 the best diversities are 0, 5, 5, 10, 10, 12, and their costs 0, 1, 1, 3, 3, 5. At count 2 that is plate
@@ -163,6 +168,49 @@
  * If plate 13 were locked, in tree A without that heading, counts 0 and 1 would be refused. At count 2 plate 13 would be best,
  * with diversity 5, and unrooted with diversity 0 though it costs 2 quarters. For the counts from 0 to 5 the best diversities,
  * rooted, would be 0, 0, 5, 10, 10, 12, and their costs 4,294,967,295, 4,294,967,295, 2, 3, 3, 5.
+ *
+ *
+ * A CHOICE WHILE THE COUNT IS BEING TURNED
+ *
+ * plates_quick makes a quick choice, for the time in which the knob of the panel is moving. It needs no curve and no work. The
+ * records and the picks bound its time, whatever the count; the time of plates_choose grows with the count. A quick choice need
+ * not be the best one: when the knob rests, plates_choose is to be called for that.
+ *
+ * A quick choice is rooted. It starts from the locked taxa, and makes at most as many picks as the caller says, 0 to 64. Each
+ * pick adds a taxon to the set. A taxon that is not in the set can be picked if it adds more than 0 to the diversity, and the
+ * set still fits the page count with it and the headings that it opens. Of these taxa the pick takes
+ *
+ *     1. the one that adds the most diversity;
+ *     2. at equal diversity the one that adds the fewest quarters, those of the headings that it opens included;
+ *     3. at equal quarters too, the one with the lowest record.
+ *
+ * Picking ends when no taxon can be picked, or with the last pick that the caller allows. A taxon that adds no diversity is
+ * never picked, not even a free one. No outline has more than 64 taxa, so 64 picks are always enough. With its records in
+ * another order the same tree may have a quick choice of another diversity; its best diversity stays the same.
+ *
+ * With the set goes a ceiling: the diversity of the set, and on top of it, for each taxon that is not in the set and whose own
+ * price is at most the page count, what this taxon would add to the set by itself. Headings are not looked at here. In tree A
+ * plates 11, 12 and 13 by themselves have diversities 7, 5 and 5:
+ *
+ *     count  picks     plates      diversity  cost  taxa  ceiling
+ *       5    0         none            0        0     0      17     plate 11 would add 7, plates 12 and 13 would add 5 each
+ *       5    1         11              7        3     1      14     plate 12 would add 2, plate 13 would add 5
+ *       5    2 to 64   11 and 13      12        5     2      14     plate 12 would add 2
+ *       2    1 to 64   12              5        1     1      10     plate 13 would add 5, and plate 11 costs more than 2
+ *       3    1 to 64   11              7        3     1      14     plate 12 would add 2, plate 13 would add 5
+ *       6    3 to 64   all            14        6     3      14
+ *
+ * What is promised, where the best diversity is that of plates_choose for the same outline and count, rooted:
+ *
+ * - The set fits the page count: it has every locked taxon, and its cost is at most the count.
+ * - The best diversity is at least the diversity of the set, and at most the ceiling.
+ * - More picks never lower the diversity. Beside the locked taxa the set has at most as many taxa as the caller allows picks,
+ *   and fewer only where no taxon can be picked any more.
+ *
+ * So the ceiling less the diversity is the most that the set can be short of the best. After two picks for count 5 the best
+ * diversity is from 12 to 14, and plates_choose tells that it is 12. For count 3 it is from 7 to 14, and is 10, by plates 12 and
+ * 13, a set that no number of picks gives. Where the two numbers are equal, as for count 6, no set that fits shows more than the
+ * quick choice. Even then plates_choose may give another set of that diversity: it also chooses free taxa that add nothing.
  *
  *
  * THE SHEET
@@ -182,8 +230,8 @@
  *         5  12        5  12        7  12
  *
  * The sums are the cost and the diversity of the set. The marks that plates_choose has written can be handed over as they are:
- * with the same way the sums are the cost and the diversity of its answer. But any set of taxa may be marked by hand, the empty
- * one too. It need not fit a page count, nor have the locked taxa.
+ * with the same way the sums are the cost and the diversity of its answer. With the rooted way the same holds of plates_quick.
+ * But any set of taxa may be marked by hand, the empty one too. It need not fit a page count, nor have the locked taxa.
  *
  *
  * WHAT A BUYER'S EDITOR MAY SEE
@@ -211,18 +259,19 @@
  *
  * WHAT THE CALLER HAS TO KEEP
  *
- * marks, curve and work of plates_choose are lent space, and so are the outline of plates_read, the text and pairs of
- * plates_write, the sheet of plates_sheet and the view of plates_view_house and plates_view_buyer: buffers that a result is
- * written to, and that a refusal leaves as they were. answer and place are no lent space. They carry the numbers that a call
- * gives, so they are written in any case, on a refusal too.
+ * marks, curve and work of plates_choose are lent space, and so are the marks of plates_quick, the outline of plates_read, the
+ * text and pairs of plates_write, the sheet of plates_sheet and the view of plates_view_house and plates_view_buyer: buffers
+ * that a result is written to, and that a refusal leaves as they were. answer, place and ceiling are no lent space. They carry
+ * the numbers that a call gives, so they are written in any case, on a refusal too.
  *
  * - No pointer is null, not even where the length is 0, and each points to at least as many elements as its length says.
  *   Lengths are numbers of elements: text_len, outline_len, marks_len and view_len in bytes, pairs_len, curve_len and sheet_len
  *   in uint32_t, work_len in uint64_t. The answer of plates_choose has 6 elements, that of plates_read has 3, that of
- *   plates_write has 4, that of plates_sheet has 5, that of plates_view_house and plates_view_buyer has 2, place has 1.
+ *   plates_write has 4, that of plates_quick and plates_sheet has 5, that of plates_view_house and plates_view_buyer has 2;
+ *   place and ceiling have 1.
  * - Each pointer is aligned as its element type asks. text, outline, marks and view may begin at any byte.
- * - What a call writes (lent space, answer, place) overlaps nothing else that it is handed: a view is not made in the place of
- *   its outline. What a call only reads may overlap: the outline and the marks of plates_sheet may be the same memory.
+ * - What a call writes (lent space, answer, place, ceiling) overlaps nothing else that it is handed: a view is not made in the
+ *   place of its outline. What a call only reads may overlap: the outline and the marks of plates_sheet may be the same memory.
  * - While a call runs, nobody else writes what it is handed, and nobody else reads what it writes.
  *
  * What stands before a call where it writes makes no difference; that need not be initialised.
@@ -230,18 +279,19 @@
  *
  * WHAT THE LIBRARY KEEPS
  *
- * - Any bytes may be handed over as an outline, a text or the marks of plates_sheet, and any numbers as pairs, count, way and
- *   lengths: what is not sound is refused, and a refusal of the table below is the only way for a call to fail.
+ * - Any bytes may be handed over as an outline, a text or the marks of plates_sheet, and any numbers as pairs, count, picks,
+ *   way and lengths: what is not sound is refused, and a refusal of the table below is the only way for a call to fail.
  * - Nothing is allocated, no file is touched, and there is no global state. Calls on different buffers may run at the same
  *   time, and may share what they only read.
  * - Nothing is written but what is named at each function, and no byte 0 behind a text. Only plates_read writes to the outline
- *   that it is handed, and only plates_choose to the marks.
- * - The time of a call is bounded. That of plates_choose grows linearly with the count; checking, finding, the sheet and the
- *   views take at most a few steps for each pair of records, writing also for each byte of the text, and reading also for each
- *   byte of the text and for each record with each pair of numbers.
- * - Little stack is used, since the table stands in work: choosing, writing and the sheet nest no deeper than there are records,
- *   which takes less than 64 KB on x86-64 for the deepest outlines. Reading a text takes less than 70 KB, however deep it is:
- *   its calls nest for 127 records, and no deeper.
+ *   that it is handed, and only plates_choose and plates_quick to the marks.
+ * - The time of a call is bounded. That of plates_choose grows linearly with the count; checking, finding, the quick choice,
+ *   the sheet and the views take at most a few steps for each pair of records, the quick choice also for each pick with each
+ *   record, writing also for each byte of the text, and reading also for each byte of the text and for each record with each
+ *   pair of numbers.
+ * - Little stack is used, since the table stands in work: choosing, the quick choice, writing and the sheet nest no deeper than
+ *   there are records, which takes less than 64 KB on x86-64 for the deepest outlines. Reading a text takes less than 70 KB,
+ *   however deep it is: its calls nest for 127 records, and no deeper.
  */
 #ifndef PLATES_H
 #define PLATES_H
@@ -264,6 +314,7 @@ extern "C" {
 #define PLATES_MOST_RECORDS 127
 #define PLATES_MOST_TAXA 64
 #define PLATES_MOST_COUNT 4096
+#define PLATES_MOST_PICKS 64
 #define PLATES_MOST_LENGTH 1000000
 #define PLATES_MOST_PRICE 65535
 #define PLATES_MOST_PLATE 2147483647
@@ -294,8 +345,8 @@ extern "C" {
  * of the marked set.
  *
  * answer is no buffer, and always has PLATES_ANSWER_LEN uint32_t, for plates_read PLATES_READ_ANSWER_LEN, for plates_write
- * PLATES_WRITE_ANSWER_LEN, for plates_sheet PLATES_SHEET_ANSWER_LEN, and for plates_view_house and plates_view_buyer
- * PLATES_VIEW_ANSWER_LEN: see below.
+ * PLATES_WRITE_ANSWER_LEN, for plates_quick PLATES_QUICK_ANSWER_LEN, for plates_sheet PLATES_SHEET_ANSWER_LEN, and for
+ * plates_view_house and plates_view_buyer PLATES_VIEW_ANSWER_LEN: see below.
  */
 #define PLATES_OUTLINE_LEN(records) (PLATES_CAST_(size_t, PLATES_RECORD_BYTES) * PLATES_CAST_(size_t, records))
 #define PLATES_PAIRS_LEN(taxa) (PLATES_CAST_(size_t, 2) * PLATES_CAST_(size_t, taxa))
@@ -328,7 +379,7 @@ enum plates_way {
  * their numbers unless the function says another, and the first that holds is given. A refusal has a place: the number of the
  * record at fault, from 1, or 0 where no one record is.
  *
- * Later versions add refusals, with numbers from 15 on. So treat any number other than PLATES_OK as a refusal, also one that is
+ * Later versions add refusals, with numbers from 16 on. So treat any number other than PLATES_OK as a refusal, also one that is
  * not named here: give a switch over these a default.
  */
 enum plates_refusal {
@@ -353,8 +404,8 @@ enum plates_refusal {
     /* An earlier taxon has the same plate, whatever their locks; place is the lowest such record, so the later of the two. */
     PLATES_DUPLICATE_PLATE = 8,
     /* marks, curve or work of plates_choose is shorter than PLATES_MARKS_LEN, PLATES_CURVE_LEN or PLATES_WORK_LEN says, or the
-     * outline of plates_read or a view than PLATES_OUTLINE_LEN says, or the text or the pairs of plates_write than what is to be
-     * written, or the sheet than PLATES_SHEET_LEN says; place 0. */
+     * marks of plates_quick than PLATES_MARKS_LEN says, or the outline of plates_read or a view than PLATES_OUTLINE_LEN says,
+     * or the text or the pairs of plates_write than what is to be written, or the sheet than PLATES_SHEET_LEN says; place 0. */
     PLATES_BUFFER_TOO_SHORT = 9,
     /* The text is no tree in the form above, or has more than 16,384 bytes; place 0. */
     PLATES_BAD_TEXT = 10,
@@ -369,7 +420,9 @@ enum plates_refusal {
     PLATES_UNWRITABLE = 13,
     /* There are fewer marks than records, whatever they are; place 0. Or the record's mark is neither 0 nor 1, or it is 1 and
      * the record is a group; place is the lowest such record. It is judged after 8 and before 9. */
-    PLATES_BAD_MARKS = 14
+    PLATES_BAD_MARKS = 14,
+    /* More than 64 picks are asked for; place 0. It is judged after 4 and before 5. */
+    PLATES_TOO_MANY_PICKS = 15
 };
 
 /* What stands where in the answer of plates_choose. */
@@ -407,6 +460,18 @@ enum plates_write_answer {
     PLATES_WRITE_ANSWER_PAIRS = 3,
     /* The number of elements. */
     PLATES_WRITE_ANSWER_LEN = 4
+};
+
+/* The same for plates_quick, whose number and place stand there too. */
+enum plates_quick_answer {
+    /* The diversity of the set, rooted. This and what follows are 0 for a refusal. */
+    PLATES_QUICK_ANSWER_DIVERSITY = 2,
+    /* Its cost in quarters, headings included. */
+    PLATES_QUICK_ANSWER_COST = 3,
+    /* The number of taxa in it, the locked ones included. */
+    PLATES_QUICK_ANSWER_TAXA = 4,
+    /* The number of elements. */
+    PLATES_QUICK_ANSWER_LEN = 5
 };
 
 /* The same for plates_sheet, whose number and place stand there too. */
@@ -490,6 +555,21 @@ uint32_t plates_find(const uint8_t *outline, size_t outline_len, uint32_t plate)
 uint32_t plates_choose(const uint8_t *outline, size_t outline_len, uint32_t count, uint32_t way,
                        uint8_t *marks, size_t marks_len, uint32_t *curve, size_t curve_len,
                        uint64_t *work, size_t work_len, uint32_t answer[6]);
+
+/*
+ * Makes a quick choice of taxa for a page count, rooted, with at most `picks` picks.
+ *
+ * Gives PLATES_OK, or the first of refusals 2, 3, 4, 15, 5 to 8, 9 and 12 that holds, in this order, and writes all five
+ * elements of answer and *ceiling in any case. On a refusal *ceiling is 0. On PLATES_OK, for N records:
+ *
+ *     marks      the first N: for each record 1 if it is a taxon of the set, else 0; record r stands at marks[r - 1]
+ *     *ceiling   a number that the best diversity is never above
+ *
+ * Marks beyond these stay as they were, so there may be more than needed. On a refusal all of them stay as they were. Marks of
+ * PLATES_MOST_MARKS_LEN bytes have room for every outline, and PLATES_MOST_PICKS picks are enough for each.
+ */
+uint32_t plates_quick(const uint8_t *outline, size_t outline_len, uint32_t count, uint32_t picks,
+                      uint8_t *marks, size_t marks_len, uint32_t answer[5], uint64_t *ceiling);
 
 /*
  * Lists the taxa of a marked set, with what each adds.
