@@ -261,11 +261,6 @@ fn call(outline: &Outline, count: u32, way: Way, work: &mut Work) -> [u32; 6] {
 fn read(outline: &Outline, count: u32, work: &Work, answer: [u32; 6]) -> Choice {
     let [_, _, diversity, cost, _, spare] = answer;
     let marks = work.marks[..outline.records().len()].to_vec();
-    let chosen = outline
-        .records()
-        .zip(&marks)
-        .filter(|(_, mark)| **mark == 1);
-    let taxa = chosen.map(|(record, _)| record).collect();
     let columns = (0..=count).zip(work.curve.chunks_exact(2));
     let curve = columns.map(|(count, column)| {
         let (diversity, cost) = (column[0], column[1]);
@@ -279,7 +274,7 @@ fn read(outline: &Outline, count: u32, work: &Work, answer: [u32; 6]) -> Choice 
         diversity,
         cost,
         spare,
-        taxa,
+        taxa: outline.marked(&marks),
         curve: curve.collect(),
         marks,
     }

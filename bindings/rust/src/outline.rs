@@ -143,6 +143,12 @@ impl Outline {
         self.records().filter(Record::is_taxon)
     }
 
+    // The taxa that the library has marked, in record order.
+    pub(crate) fn marked(&self, marks: &[u8]) -> Vec<Record> {
+        let marked = self.records().zip(marks).filter(|(_, mark)| **mark == 1);
+        marked.map(|(record, _)| record).collect()
+    }
+
     /// The outline with these plates locked beside those that are: for one that was read from text,
     /// which has no locks. `None` if no taxon has one of the plates.
     ///

@@ -4,18 +4,19 @@ use std::error::Error;
 use std::fmt;
 
 /// Why an outline, a text or a call is refused. Where several reasons hold, the first in this order
-/// is given, but for two things: reading a text has an order of its own, which
-/// [`Outline::from_newick`](crate::Outline::from_newick) says, and numbers 13 and 14 are judged
-/// before 9.
+/// is given, but for three things: reading a text has an order of its own, which
+/// [`Outline::from_newick`](crate::Outline::from_newick) says, numbers 13 and 14 are judged before
+/// 9, and number 15 is judged after 4 and before 5.
 ///
-/// The library's table of refusals grows: later versions add numbers from 15 on. So a `match` has
+/// The library's table of refusals grows: later versions add numbers from 16 on. So a `match` has
 /// an arm for the rest, and a number that these bindings do not know is a refusal all the same, as
 /// [`Other`](Refusal::Other).
 ///
 /// Through the safe interface only some of them arise: the bytes of an [`Outline`](crate::Outline)
 /// are refused with numbers 2, 3 and 5 to 8, a text with 3, 5, 7, 8, 10 and 11, choosing with
-/// numbers 4 and 12, writing with 13, listing a sheet with 14. Number 9 is for those who lend the
-/// memory of a view, or call [`sys`](crate::sys), and number 1 for the latter only.
+/// numbers 4 and 12, a quick choice with 4, 12 and 15, writing with 13, listing a sheet with 14.
+/// Number 9 is for those who lend the memory of a view, or call [`sys`](crate::sys), and number 1
+/// for the latter only.
 ///
 /// ```
 /// use plates::{Outline, Refusal};
@@ -83,6 +84,8 @@ pub enum Refusal {
         /// records, whatever they are.
         record: Option<u32>,
     },
+    /// 15: more than 64 picks are asked for.
+    TooManyPicks,
     /// A number that these bindings do not know, from a later version of the library. A later
     /// version of the bindings may have a name for it.
     #[non_exhaustive]
@@ -128,6 +131,7 @@ impl Refusal {
             14 => Refusal::BadMarks {
                 record: (place != 0).then_some(place),
             },
+            15 => Refusal::TooManyPicks,
             _ => Refusal::Other { number, place },
         })
     }
@@ -158,6 +162,7 @@ impl Refusal {
             Refusal::LockedTooDear => 12,
             Refusal::Unwritable { .. } => 13,
             Refusal::BadMarks { .. } => 14,
+            Refusal::TooManyPicks => 15,
             Refusal::Other { number, .. } => number,
         }
     }
@@ -214,6 +219,7 @@ impl fmt::Display for Refusal {
                 "its mark is neither 0 nor 1, or is 1 at a group"
             }
             Refusal::BadMarks { record: None } => "there are fewer marks than records",
+            Refusal::TooManyPicks => "more than 64 picks are asked for",
             Refusal::Other { number, .. } => {
                 return write!(f, "refusal {number}, which these bindings do not know");
             }

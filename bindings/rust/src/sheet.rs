@@ -65,8 +65,9 @@ impl Outline {
     ///
     /// The set is given by a mark for each record, in order: 1 for a taxon of the set, 0 for every
     /// other record. Marks after these are not looked at. The [`marks`](crate::Choice::marks) of a
-    /// choice are such, and by the same way the sums are then the choice's diversity and cost. Any
-    /// other set may be marked too: it need not fit a page count, nor have the locked taxa.
+    /// choice are such, and by the same way the sums are then the choice's diversity and cost. The
+    /// same holds of a [quick choice](crate::QuickChoice::marks) with the rooted way. Any other set
+    /// may be marked too: it need not fit a page count, nor have the locked taxa.
     ///
     /// A heading is charged to the first taxon of the set that is below it. Unrooted, the first
     /// taxon adds no diversity.

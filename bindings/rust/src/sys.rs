@@ -5,10 +5,11 @@
 //! where a length is 0), each points to as many elements as its length says and is aligned for
 //! them, and what is written overlaps nothing else. Nothing else is asked of the caller, whatever
 //! the outline, the text or the marks hold. A refusal leaves the lent buffers (`marks`, `curve` and
-//! `work` of `plates_choose`, the `outline` of `plates_read`, the `text` and `pairs` of
-//! `plates_write`, the `sheet` of `plates_sheet`, and the `view` of `plates_view_house` and
-//! `plates_view_buyer`) as they were; `answer` and `place` carry the numbers given and are written
-//! in any case. Every number but 0 is a refusal, and later versions add some.
+//! `work` of `plates_choose`, the `marks` of `plates_quick`, the `outline` of `plates_read`, the
+//! `text` and `pairs` of `plates_write`, the `sheet` of `plates_sheet`, and the `view` of
+//! `plates_view_house` and `plates_view_buyer`) as they were; `answer`, `place` and `ceiling` carry
+//! the numbers given and are written in any case. Every number but 0 is a refusal, and later
+//! versions add some.
 //!
 //! ```
 //! use plates::sys;
@@ -123,6 +124,27 @@ extern "C" {
         answer: *mut u32,
     ) -> u32;
 
+    /// Makes a quick choice for a page count, rooted, with at most so many picks: gives 0 or the
+    /// refusal's number, and in any case writes the five numbers of `answer` (number, place,
+    /// diversity, cost, taxa) and `ceiling`, which is 0 on a refusal and else a number that the best
+    /// diversity is never above. Unless it refuses, it also writes `marks`.
+    ///
+    /// # Safety
+    ///
+    /// `outline` can be read for `outline_len` bytes. `marks`, `answer` and `ceiling` can be written
+    /// for `marks_len` bytes, 5 numbers and one. None of the pointers is null, each is aligned for
+    /// its elements, and no two of the four overlap.
+    pub fn plates_quick(
+        outline: *const u8,
+        outline_len: usize,
+        count: u32,
+        picks: u32,
+        marks: *mut u8,
+        marks_len: usize,
+        answer: *mut u32,
+        ceiling: *mut u64,
+    ) -> u32;
+
     /// Lists the taxa of a marked set, with what each adds: gives 0 or the refusal's number, and in
     /// any case writes the five numbers of `answer` (number, place, rows, quarters, diversity).
     /// Unless it refuses, it also writes the rows to the beginning of `sheet`, three numbers for
@@ -183,7 +205,7 @@ pub const fn written_len(records: usize, taxa: usize) -> usize {
     10 * records + 8 * taxa
 }
 
-/// How many bytes of marks choosing and listing need.
+/// How many bytes of marks choosing, the quick choice and listing need.
 #[must_use]
 pub const fn marks_len(records: usize) -> usize {
     records

@@ -226,8 +226,8 @@ fn first_that_holds_is_given() {
 
 #[test]
 fn numbers_and_places() {
-    for number in 1..=14 {
-        let refusal = Refusal::from_parts(number, 7).expect("fourteen refusals");
+    for number in 1..=15 {
+        let refusal = Refusal::from_parts(number, 7).expect("fifteen refusals");
         assert_eq!(refusal.number(), number);
         let has_place = [5, 6, 8, 13, 14].contains(&number);
         assert_eq!(refusal.place(), has_place.then_some(7));
@@ -290,6 +290,8 @@ fn refusals_are_errors_with_a_sentence() {
     );
     let marks = Refusal::BadMarks { record: None }.to_string();
     assert_eq!(marks, "there are fewer marks than records");
+    let picks = Refusal::TooManyPicks.to_string();
+    assert_eq!(picks, "more than 64 picks are asked for");
     let later = |place| Refusal::from_parts(4_000, place).map(|refusal| refusal.to_string());
     let sentence = "refusal 4000, which these bindings do not know";
     assert_eq!(later(0).as_deref(), Some(sentence));

@@ -205,8 +205,12 @@ pub fn diversity(outline: &Outline, taxa: &[Record], way: Way) -> u32 {
     counted.map(|record| record.length).sum()
 }
 
+pub fn plates_of(taxa: &[Record]) -> Vec<u32> {
+    taxa.iter().map(|taxon| taxon.plate).collect()
+}
+
 pub fn plates(choice: &Choice) -> Vec<u32> {
-    choice.taxa().iter().map(|taxon| taxon.plate).collect()
+    plates_of(choice.taxa())
 }
 
 /// Plates, diversity, cost, spare.
