@@ -68,7 +68,7 @@ pub(crate) fn tree_c(length: u32, price: u32) -> Vec<Record> {
     ]
 }
 
-fn tree_d() -> Vec<Record> {
+pub(crate) fn tree_d() -> Vec<Record> {
     vec![
         group(0, 2, 0),
         taxon(3, 6, 3, 1),

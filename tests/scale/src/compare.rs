@@ -3,10 +3,11 @@
 use crate::expect::Expected;
 use crate::frame::difference;
 use crate::library::{
-    CheckObserved, ChooseObserved, FindObserved, ReadObserved, SheetObserved, ViewObserved,
-    WriteObserved,
+    CheckObserved, ChooseObserved, FindObserved, QuickObserved, ReadObserved, SheetObserved,
+    ViewObserved, WriteObserved,
 };
 use crate::outline::{self, Record, LOCK};
+use crate::quick::QuickExpected;
 use crate::reading::ReadExpected;
 use crate::rules::Refusal;
 use crate::sheet::SheetExpected;
@@ -206,6 +207,61 @@ pub fn differing([one, other]: [&[u8]; 2]) -> Vec<usize> {
         .collect()
 }
 
+pub fn quick(expected: &QuickExpected, observed: &QuickObserved) -> Comparison {
+    let (before, after) = (&observed.before, &observed.after);
+    let ceiling = [expected.ceiling];
+    let differences = [
+        returned(expected.answer[0], observed.returned),
+        difference("answer", &before.answer, &after.answer, &expected.answer),
+        difference("ceiling", &before.ceiling, &after.ceiling, &ceiling),
+        difference("outline", &before.outline, &after.outline, &[]),
+        difference("marks", &before.marks, &after.marks, &expected.marks),
+    ];
+    let values = 1
+        + after.answer.cells.len()
+        + after.ceiling.cells.len()
+        + after.outline.cells.len()
+        + after.marks.cells.len();
+    Comparison {
+        differences: differences.into_iter().flatten().collect(),
+        values,
+    }
+}
+
+/// The diversity of the best set, or the number of the refusal.
+pub type Best = Result<u32, u32>;
+
+/// Where a quick choice does not go with the best set of the same outline and page count. The best diversity is not below the
+/// choice's, nor above its ceiling, and where there is no best set both are refused alike.
+pub fn beside_best(by: &str, observed: &QuickObserved, best: Best) -> Option<String> {
+    let (quick, ceiling) = (observed.diversity(), observed.ceiling());
+    let holds = match best {
+        Ok(best) => observed.returned == 0 && quick <= best && u64::from(best) <= ceiling,
+        Err(number) => observed.returned == number,
+    };
+    (!holds).then(|| {
+        let number = observed.returned;
+        format!(
+            "{by} gives {best:?}, the quick choice {number}, diversity {quick}, ceiling {ceiling}"
+        )
+    })
+}
+
+/// Where more picks of the same outline and page count have less diversity or leave a record out.
+pub fn more_picks(fewer: &QuickObserved, more: &QuickObserved, records: usize) -> Vec<String> {
+    let mut differences = Vec::new();
+    let [diversity, with_more] = [fewer, more].map(QuickObserved::diversity);
+    if diversity > with_more {
+        differences.push(format!(
+            "diversity: {with_more} with more picks, {diversity} with fewer"
+        ));
+    }
+    let [marks, with_more] = [fewer, more].map(|observed| observed.after.marks.content());
+    let left_out = (0..records).filter(|&at| marks[at] == 1 && with_more[at] != 1);
+    differences.extend(left_out.map(|at| format!("marks[{at}]: left out with more picks")));
+    differences
+}
+
 #[cfg(test)]
 mod tests {
     use super::*;
@@ -214,15 +270,18 @@ mod tests {
     use crate::expect;
     use crate::frame::Frame;
     use crate::heading_cases::tree_a_with;
-    use crate::library::{Buffers, ReadBuffers, SheetBuffers, ViewBuffers, WriteBuffers};
+    use crate::library::{
+        Buffers, QuickBuffers, ReadBuffers, SheetBuffers, ViewBuffers, WriteBuffers,
+    };
     use crate::lock_cases::locking;
     use crate::outline::bytes;
+    use crate::quick::{self, QuickCall};
     use crate::random::Random;
     use crate::reading::{self, ReadCall};
     use crate::sheet::{self, SheetCall};
     use crate::view::{self, Reader, ViewCall, READERS};
     use crate::writing::{self, WriteCall};
-    use crate::wrong_views;
+    use crate::{wrong_picks, wrong_views};
 
     /// What a right library does.
     fn right(expected: &Expected, call: &Call) -> ChooseObserved {
@@ -667,5 +726,74 @@ mod tests {
         for other in wrong {
             assert_ne!(shown_to_house(outlines, [outlines[0], other]), None);
         }
+    }
+
+    /// {3} of tree A with a lock, and with one pick more {3, 5}, chosen by a right program for 5 quarters and for so many marks.
+    fn choosing_quickly(picks: u32, marks: usize) -> (QuickExpected, QuickObserved) {
+        let call = QuickCall {
+            outline: bytes(&locking(&[3], cases::tree_a())),
+            count: 5,
+            picks,
+            marks,
+        };
+        let before = QuickBuffers::random(&call, &mut Random::new(8));
+        let observed = wrong_picks::RIGHT.run()(call.count, picks, before);
+        (quick::expected(&call), observed)
+    }
+
+    #[test]
+    fn wrong_quick_choices_are_noticed() {
+        for (picks, marks, number) in [(0, 9, 0), (1, 5, 0), (1, 4, 9), (65, 5, 15)] {
+            let pair = choosing_quickly(picks, marks);
+            assert_eq!(pair.0.answer[0], number);
+            assert_eq!(quick(&pair.0, &pair.1).differences, [""; 0]);
+            is_the_one_difference(quick, &pair, |o| &mut o.after.answer, |v| v ^ (1 << 31));
+            is_the_one_difference(quick, &pair, |o| &mut o.after.ceiling, |v| v ^ (1 << 63));
+            is_the_one_difference(quick, &pair, |o| &mut o.after.outline, |v| v ^ 1);
+            is_the_one_difference(quick, &pair, |o| &mut o.after.marks, |v| v ^ 1);
+            let (expected, mut altered) = pair;
+            altered.returned ^= 1;
+            assert_eq!(quick(&expected, &altered).differences.len(), 1);
+            altered.after.marks = altered.before.marks.clone();
+            altered.after.ceiling = altered.before.ceiling.clone();
+            let untouched = quick(&expected, &altered).differences.len();
+            assert_eq!(untouched, if number == 0 { 3 } else { 2 });
+        }
+    }
+
+    /// The best is 12 at 5 quarters. With no pick the diversity is 7, the ceiling 14.
+    #[test]
+    fn the_best_is_between_diversity_and_ceiling_or_there_is_the_same_refusal() {
+        let (_, observed) = choosing_quickly(0, 5);
+        for (best, holds) in [
+            (Ok(12), true),
+            (Ok(7), true),
+            (Ok(6), false),
+            (Ok(14), true),
+            (Ok(15), false),
+            (Ok(0), false),
+            (Err(12), false),
+        ] {
+            let difference = beside_best("the best", &observed, best);
+            assert_eq!(difference.is_none(), holds, "{best:?}");
+        }
+        let mut refused = observed;
+        refused.returned = 12;
+        assert_eq!(beside_best("the best", &refused, Err(12)), None);
+        assert!(beside_best("the best", &refused, Err(9)).is_some());
+        assert!(beside_best("the best", &refused, Ok(7)).is_some());
+    }
+
+    #[test]
+    fn more_picks_that_have_less_are_noticed() {
+        let [fewer, more] = [0, 1].map(|picks| choosing_quickly(picks, 5).1);
+        assert_eq!(more_picks(&fewer, &more, 5), [""; 0]);
+        assert_eq!(more_picks(&fewer, &fewer, 5), [""; 0]);
+        let lost = [
+            "diversity: 7 with more picks, 12 with fewer",
+            "marks[4]: left out with more picks",
+        ];
+        assert_eq!(more_picks(&more, &fewer, 5), lost);
+        assert_eq!(more_picks(&more, &fewer, 4), lost[..1]);
     }
 }

@@ -50,16 +50,8 @@ pub fn subsets(taxa: usize) -> Vec<u64> {
 /// Goes through `order`, which names every subset once, for each column from 0 to `count`. Nothing where no set fits `count`.
 pub fn search(records: &[Record], way: u32, count: u32, order: &[u64]) -> Option<Solution> {
     let taxa = outline::taxa(records);
-    let clades = clades(records, &taxa);
     let locked = locked(records, &taxa);
-    let subsets: Vec<Subset> = order
-        .iter()
-        .map(|&set| Subset {
-            set,
-            diversity: diversity(records, &clades, way, set),
-            cost: taxa_cost(records, &taxa, set) + headings_cost(records, &clades, set),
-        })
-        .collect();
+    let subsets = measured(records, way, &taxa, order);
     let in_hand: Vec<Option<Subset>> = (0..=count)
         .map(|b| in_hand_at(b, locked, &subsets))
         .collect();
@@ -71,8 +63,26 @@ pub fn search(records: &[Record], way: u32, count: u32, order: &[u64]) -> Option
     })
 }
 
+/// Diversity and cost of the best set that fits `count`, of every subset; nothing where none fits.
+pub fn best(records: &[Record], way: u32, count: u32) -> Option<[u32; 2]> {
+    let taxa = outline::taxa(records);
+    let subsets = measured(records, way, &taxa, &subsets(taxa.len()));
+    let best = in_hand_at(count, locked(records, &taxa), &subsets)?;
+    Some([best.diversity, best.cost])
+}
+
+fn measured(records: &[Record], way: u32, taxa: &[usize], order: &[u64]) -> Vec<Subset> {
+    let clades = clades(records, taxa);
+    let subset = |&set: &u64| Subset {
+        set,
+        diversity: diversity(records, &clades, way, set),
+        cost: taxa_cost(records, taxa, set) + headings_cost(records, &clades, set),
+    };
+    order.iter().map(subset).collect()
+}
+
 /// The taxa that a set has to hold.
-fn locked(records: &[Record], taxa: &[usize]) -> u64 {
+pub(crate) fn locked(records: &[Record], taxa: &[usize]) -> u64 {
     (0..taxa.len())
         .filter(|&k| records[taxa[k]].is_locked())
         .fold(0, |locked, k| locked | 1 << k)
@@ -281,8 +291,11 @@ mod tests {
             let solution = search(&records, way, count, &order);
             rng.shuffle(&mut order);
             assert_eq!(search(&records, way, count, &order), solution);
+            let best = best(&records, way, count);
+            assert_eq!(best.is_some(), solution.is_some());
             let Some(solution) = solution else { continue };
             let last = *solution.columns.last().unwrap();
+            assert_eq!(best, Some(last));
             assert_eq!(spare(&solution.columns), count - last[1]);
         }
     }

@@ -14,9 +14,13 @@ pub mod library;
 pub mod lock_cases;
 pub mod locks;
 pub mod mangle;
+mod measures;
 pub mod newick;
 pub mod outline;
 pub mod peer;
+pub mod quick;
+pub mod quick_cases;
+mod quick_runs;
 pub mod random;
 pub mod reading;
 pub mod report;
@@ -39,5 +43,7 @@ mod view_runs;
 pub mod write_cases;
 pub mod write_runs;
 pub mod writing;
+#[cfg(test)]
+mod wrong_picks;
 #[cfg(test)]
 mod wrong_views;

@@ -2,6 +2,7 @@
 
 use crate::call::Call;
 use crate::frame::Frame;
+use crate::quick::QuickCall;
 use crate::random::Random;
 use crate::reading::ReadCall;
 use crate::sheet::SheetCall;
@@ -65,6 +66,16 @@ extern "C" {
         view: *mut u8,
         view_len: usize,
         answer: *mut u32,
+    ) -> u32;
+    fn plates_quick(
+        outline: *const u8,
+        outline_len: usize,
+        count: u32,
+        picks: u32,
+        marks: *mut u8,
+        marks_len: usize,
+        answer: *mut u32,
+        ceiling: *mut u64,
     ) -> u32;
 }
 
@@ -469,6 +480,76 @@ pub fn view(reader: Reader, before: ViewBuffers) -> ViewObserved {
     }
 }
 
+/// What a quick choice is handed, with its guards.
+#[derive(Clone, Debug)]
+pub struct QuickBuffers {
+    pub outline: Frame<u8>,
+    pub marks: Frame<u8>,
+    pub answer: Frame<u32>,
+    pub ceiling: Frame<u64>,
+}
+
+impl QuickBuffers {
+    pub fn random(call: &QuickCall, rng: &mut Random) -> Self {
+        QuickBuffers {
+            outline: Frame::holding(&call.outline, rng),
+            marks: Frame::random(call.marks, rng),
+            answer: Frame::random(5, rng),
+            ceiling: Frame::random(1, rng),
+        }
+    }
+}
+
+/// What a quick choice returned and did to its buffers.
+#[derive(Clone, Debug)]
+pub struct QuickObserved {
+    pub returned: u32,
+    pub before: QuickBuffers,
+    pub after: QuickBuffers,
+}
+
+impl QuickObserved {
+    /// The diversity that was given.
+    pub fn diversity(&self) -> u32 {
+        self.after.answer.content()[2]
+    }
+
+    pub fn ceiling(&self) -> u64 {
+        self.after.ceiling.content()[0]
+    }
+}
+
+/// A program that chooses quickly for a page count with so many picks: the library, or in tests a wrong one.
+pub type Picker<'a> = &'a dyn Fn(u32, u32, QuickBuffers) -> QuickObserved;
+
+pub fn guarded_quick(call: &QuickCall, rng: &mut Random) -> QuickObserved {
+    quick(call.count, call.picks, QuickBuffers::random(call, rng))
+}
+
+/// The library's function on buffers as they are.
+pub fn quick(count: u32, picks: u32, before: QuickBuffers) -> QuickObserved {
+    let mut after = before.clone();
+    // SAFETY: each frame's buffer has the length given here, and the frames are separate allocations; the answer has room for
+    // five numbers and the ceiling for one.
+    let returned = unsafe {
+        plates_quick(
+            after.outline.pointer(),
+            after.outline.len,
+            count,
+            picks,
+            after.marks.pointer(),
+            after.marks.len,
+            after.answer.pointer(),
+            after.ceiling.pointer(),
+        )
+    };
+    QuickObserved {
+        returned,
+        before,
+        after,
+    }
+}
+
 #[cfg(test)]
 mod tests {
     use super::*;
@@ -555,5 +636,22 @@ mod tests {
             assert_eq!((view.content()[40], view.content()[47]), (price, lock));
             assert_eq!(view.content()[80], observed.before.view.content()[80]);
         }
+    }
+
+    #[test]
+    fn wrapper_chooses_quickly_from_tree_a() {
+        let call = QuickCall {
+            outline: bytes(&tree_a()),
+            count: 5,
+            picks: 1,
+            marks: 6,
+        };
+        let observed = guarded_quick(&call, &mut Random::new(1));
+        assert_eq!(observed.returned, 0);
+        assert_eq!((observed.diversity(), observed.ceiling()), (7, 14));
+        let QuickBuffers { marks, answer, .. } = observed.after;
+        assert_eq!(answer.content(), [0, 0, 7, 3, 1]);
+        assert_eq!(marks.content()[..5], [0, 0, 1, 0, 0]);
+        assert_eq!(marks.content()[5], observed.before.marks.content()[5]);
     }
 }

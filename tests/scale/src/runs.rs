@@ -58,7 +58,10 @@ impl Runner {
         self.shown_outlines(outlines)?;
         self.shown_pairs(outlines / 4)?;
         self.shown_again(outlines / 10)?;
-        self.stated_views()
+        self.stated_views()?;
+        self.quick_choices(2 * outlines)?;
+        self.more_picks(outlines / 10)?;
+        self.stated_quick_choices()
     }
 
     /// Starts a run with numbers that do not depend on the runs before it.

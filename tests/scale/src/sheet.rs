@@ -1,7 +1,7 @@
 //! A call that lists a marked set, and what document 02, §6, says it gives: a row is what the exhaustive search's measures of the
 //! taxa so far grow by with one taxon more, and the sums are those of the whole set.
 
-use crate::exhaustive::{clades, diversity, headings_cost, taxa_cost};
+use crate::measures::Measures;
 use crate::outline::{self, Record};
 use crate::rules::{self, Refusal};
 
@@ -118,41 +118,6 @@ pub fn sums(records: &[Record], way: u32, marks: &[u8]) -> [u32; 2] {
     let chosen = chosen(records, marks);
     let bits = chosen.into_iter().map(|position| measures.bit(position));
     measures.of(bits.fold(0, |set, bit| set | bit))
-}
-
-/// What a set of taxa comes to, bit k of it for the k-th taxon.
-struct Measures<'a> {
-    records: &'a [Record],
-    way: u32,
-    taxa: Vec<usize>,
-    clades: Vec<u64>,
-}
-
-impl<'a> Measures<'a> {
-    fn new(records: &'a [Record], way: u32) -> Self {
-        let taxa = outline::taxa(records);
-        Measures {
-            records,
-            way,
-            clades: clades(records, &taxa),
-            taxa,
-        }
-    }
-
-    /// The bit of the taxon at a position.
-    fn bit(&self, position: usize) -> u64 {
-        let k = self.taxa.iter().position(|&taxon| taxon == position);
-        k.map_or(0, |k| 1 << k)
-    }
-
-    /// Cost and diversity.
-    fn of(&self, set: u64) -> [u32; 2] {
-        let prices = taxa_cost(self.records, &self.taxa, set);
-        [
-            prices + headings_cost(self.records, &self.clades, set),
-            diversity(self.records, &self.clades, self.way, set),
-        ]
-    }
 }
 
 #[cfg(test)]

@@ -161,13 +161,16 @@ const KINDS: [Kind<Showing>; 33] = [
 ];
 
 /// Counts what holds of it.
-fn count<T>(times: &mut [u64], kinds: &[Kind<T>], of: &T) {
+pub(crate) fn count<T>(times: &mut [u64], kinds: &[Kind<T>], of: &T) {
     for (times, (_, holds)) in times.iter_mut().zip(kinds) {
         *times += u64::from(holds(of));
     }
 }
 
-fn named<T, const N: usize>(kinds: &[Kind<T>; N], times: [u64; N]) -> Vec<(&'static str, u64)> {
+pub(crate) fn named<T, const N: usize>(
+    kinds: &[Kind<T>; N],
+    times: [u64; N],
+) -> Vec<(&'static str, u64)> {
     kinds.iter().map(|(name, _)| *name).zip(times).collect()
 }
 
