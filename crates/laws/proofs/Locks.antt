@@ -12,7 +12,7 @@ use borrow.Author.Tests.{leb-true, le-leb, ltb-true, ltb-false}
 use Rattle.lists.specs.Lists.{one, total, positive}
 use Rattle.outline.specs.Outline.{size, records, isTaxon, locked}
 use Rattle.lists.proofs.Bools.{one-le, both-true}
-use Rattle.diversity.specs.Diversity.{chosen, cost, holdsLocked}
+use Rattle.diversity.specs.Diversity.{chosen, cost, holdsLocked, chosenTaxa}
 use Rattle.diversity.specs.Behind.{IsSet, Fits, NoneFits}
 use Rattle.diversity.specs.Search.{fits}
 use Rattle.laws.specs.Locks.{locks, locksHeld, lockedSet}
@@ -96,7 +96,7 @@ chosen-inside s r e = go (ltb (r - 1) (length s)) refl
     go true h = ltb-true _ _ h
     go false h = absurd (false≢true (sym (ap (λ k. eqb k 1) (get_or-eq_default s 0 (ltb-false _ _ h))) ∙ e))
 
-pub chosen-at : (s : List ℕ) (r : ℕ) → chosen s r ≡ chosen s (suc (r - 1))
+chosen-at : (s : List ℕ) (r : ℕ) → chosen s r ≡ chosen s (suc (r - 1))
 unfolding chosen
 chosen-at s r = ap (λ i. eqb (get_or s i 0) 1) (omega arith)
 
@@ -108,6 +108,10 @@ module _ (o : List ℕ) where
   pub locked-chosen : (r : ℕ) → 1 ≤ r → r ≤ size o → chosen (lockedSet o) r ≡ locked o r
   unfolding lockedSet records
   locked-chosen = marks-chosen (locked o) (size o)
+
+  pub locked-taxa : chosenTaxa o (lockedSet o) ≡ locks o
+  unfolding chosenTaxa locks records
+  locked-taxa = total-ext _ _ 1 (size o) (λ r l u. ap one (locked-chosen r l (omega arith)))
 
   pub locked-set-holds : holdsLocked o (lockedSet o) ≡ true
   locked-set-holds = (held-each o (lockedSet o)).1 (λ r l u t. locked-chosen r l u ∙ t)

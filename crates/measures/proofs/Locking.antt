@@ -1,6 +1,6 @@
 -- The locked taxa as marks, with zeros after them.
 use Prim.Native.Nat.{ℕ, zero, suc, ◌+◌, ◌-◌, ◌<◌}
-use mathlib.Core.Path.{◌≡◌, refl, sym, ap, ◌∙◌}
+use mathlib.Core.Path.{◌≡◌, refl, sym, ap, fun_ext, ◌∙◌}
 use mathlib.Core.Bool.{Bool}
 use mathlib.Core.List.{List, [], ◌∷◌, ◌++◌}
 use native.Mathlib.Omega.{arith}
@@ -8,13 +8,12 @@ use lib.Dec.{eqb}
 use lib.ListN.{length, get_or, drop, replicate}
 use lib.Seq.{get_or-drop}
 use mir.Val.{bool_byte}
-use Rattle.lists.specs.Lists.{one, over}
+use Rattle.lists.specs.Lists.{one, total, over}
 use Rattle.lists.proofs.Bools.{byte-one}
 use Rattle.outline.specs.Outline.{size, records, locked}
 use Rattle.diversity.specs.Diversity.{chosen, cost, chosenTaxa}
 use Rattle.laws.specs.Locks.{locks, lockedSet}
-use Rattle.laws.proofs.Sums.{total-ext}
-use Rattle.laws.proofs.Locks.{locked-set, locked-chosen}
+use Rattle.laws.proofs.Locks.{locked-set, locked-taxa}
 use Rattle.laws.proofs.Marks.{map-at}
 use Rattle.laws.proofs.More.{cost-alike}
 use Rattle.measures.specs.Inner.{blank}
@@ -45,9 +44,9 @@ over-blank s r =
     (then-zeros s (drop (length s) (replicate mostRecords 0)) (λ i. get_or-drop (length s) (replicate mostRecords 0) i 0 ∙ zeros-at mostRecords (length s + i)) (r - 1))
 
 -- so their number and their cost are those of the locked taxa
-pub locked-taxa : (o : List ℕ) → chosenTaxa o (over (lockedSet o) blank) ≡ locks o
-unfolding chosenTaxa locks records
-locked-taxa o = total-ext _ _ 1 (size o) (λ r l u. ap one (over-blank (lockedSet o) r ∙ locked-chosen o r l (omega arith)))
+pub blank-taxa : (o : List ℕ) → chosenTaxa o (over (lockedSet o) blank) ≡ locks o
+unfolding chosenTaxa
+blank-taxa o = ap (λ p. total (λ r. one (p r)) (records o)) (fun_ext (over-blank (lockedSet o))) ∙ locked-taxa o
 
 pub locked-cost : (o : List ℕ) → cost o (over (lockedSet o) blank) ≡ cost o (lockedSet o)
 locked-cost o = cost-alike o (over (lockedSet o) blank) (lockedSet o) (over-blank (lockedSet o))

@@ -32,7 +32,7 @@ Chosen c number answer marks curve work = Given 6 chosenIn (λ r. choose.Answere
 
 -- the five numbers of a quick choice, with the ceiling that is written beside them
 abbrev pub quicklyChosenIn : ℕ → List ℕ → Reply quick.Figures
-quicklyChosenIn ceiling answer = replyIn answer (quick.tellings (get_or answer 2 0) (get_or answer 3 0) (get_or answer 4 0) ceiling)
+quicklyChosenIn ceiling answer = replyIn answer (quick.reported (get_or answer 2 0) (get_or answer 3 0) (get_or answer 4 0) ceiling)
 
 -- a call is answered by them as `quick` answers it
 abbrev pub QuicklyChosen : quick.Call → ℕ → List ℕ → ℕ → List ℕ → Type 0

@@ -16,7 +16,7 @@ use Rattle.diversity.specs.Diversity.{chosen, within}
 use Rattle.laws.proofs.Sums.{one-true, if-zero}
 use Rattle.measures.proofs.Locking.{zeros-at}
 use Rattle.quick.specs.Quick.{withTaxon, added, addedCost, canPick, inHand}
-use Rattle.quick.specs.Inner.{GainsUpTo, SumsUpTo, Nothing, SumsLong, CanAdd, AddedUp, Known, LookAt, ceilingPart}
+use Rattle.quick.specs.Inner.{GainsUpTo, SumsUpTo, NoSums, SumsLong, CanAdd, AddedUp, Known, LookAt, ceilingPart}
 use Rattle.quick.specs.declared.sums.Sums.{Sums}
 use Rattle.quick.proofs.Along.{gain-held, gain-up}
 use Rattle.quick.proofs.Bounds.{added-bound, cost-bound}
@@ -59,7 +59,7 @@ module _ {gain : ℕ → ℕ} where
         go q l u false d = let other = eqb-false q r d in beside q other ∙ g.before q l (omega arith)
 
 -- ---- both
-pub sums-start : {o s : List ℕ} {sums : Sums} → Nothing sums → SumsUpTo o s 1 sums
+pub sums-start : {o s : List ℕ} {sums : Sums} → NoSums sums → SumsUpTo o s 1 sums
 sums-start n = record { added-are = rw n.added-are gains-start; costs-are = rw n.costs-are gains-start }
 
 module _ {o s : List ℕ} {r : ℕ} {sums : Sums} (u : SumsUpTo o s r sums) where

@@ -3,7 +3,7 @@ use Rattle.std.specs.Prelude.{if◌then◌else◌}
 use Prim.Native.Nat.{ℕ, zero, suc, ◌+◌, ◌*◌, ◌≤◌, ◌<◌}
 use mathlib.Core.Path.{◌≡◌, refl, sym, ap, subst, ◌∙◌}
 use mathlib.Core.Logic.{◌⊎◌, inl, inr, ◌↔◌}
-use mathlib.Core.Bool.{Bool, true, false, ◌||◌, ◌&&◌, not, false≢true, true≢false, and-false}
+use mathlib.Core.Bool.{Bool, true, false, ◌||◌, ◌&&◌, not, false≢true, true≢false, and-false, or-true, or-false}
 use mathlib.Core.List.{List}
 use native.Mathlib.Omega.{arith}
 use lib.Dec.{eqb}
@@ -46,21 +46,13 @@ module _ (o : List ℕ) (linked : Linked o) where
           where
             go : (b : Bool) → eqb q t ≡ b → (within o s r ≡ true) ⊎ OnWay o t r
             go true e = inr (subst (λ k. OnWay o k r) (eqb-true q t e) w)
-            go false e = inl ((rooted-on-way o linked s r j).1 (q, (c.0, had (chosen s q) (sym (more q c.0 ∙ ap (λ b. chosen s q || b) e) ∙ c.1)), w))
-              where
-                had : (b : Bool) → (b || false) ≡ true → b ≡ true
-                had true h = refl
-                had false h = h
+            go false e = inl ((rooted-on-way o linked s r j).1 (q, (c.0, sym (more q c.0 ∙ ap (λ b. chosen s q || b) e ∙ or-false (chosen s q)) ∙ c.1), w))
 
         back : (within o s r ≡ true) ⊎ OnWay o t r → within o s' r ≡ true
         back (inl e) =
             let (q, c, w) = (rooted-on-way o linked s r j).0 e in
             (rooted-on-way o linked s' r j).1 (q, (c.0, more q c.0 ∙ rw c.1 refl), w)
-        back (inr w) = (rooted-on-way o linked s' r j).1 (t, (i, more t i ∙ rw (eq-eqb t t refl) (or-last (chosen s t))), w)
-          where
-            or-last : (b : Bool) → (b || true) ≡ true
-            or-last true = refl
-            or-last false = refl
+        back (inr w) = (rooted-on-way o linked s' r j).1 (t, (i, more t i ∙ rw (eq-eqb t t refl) (or-true (chosen s t))), w)
 
   -- one way up after another
   way-both : {t q r : ℕ} → OnWay o t q → OnWay o q r → OnWay o t r

@@ -26,7 +26,7 @@ use Rattle.measures.specs.declared.figures.Measure.{Measure}
 use Rattle.quick.specs.Quick.{afterPicks, quick, ceiling}
 use Rattle.choice.specs.Answer.{mostCount}
 use Rattle.quick.specs.Answer.{Call, mostPicks, Figures, Answered, told, judged, quickSet, figuresOf, reply, marksAfter}
-use Rattle.quick.specs.Inner.{Parents, Countable, HeldIn, Pickable, PicksFit, PicksDone, Fillable, Filled}
+use Rattle.quick.specs.Inner.{Parents, HasParents, HeldIn, HasHeld, PicksFit, PicksDone, Fillable, Filled}
 use Rattle.quick.specs.declared.answer.Answer.{Answer}
 use Rattle.quick.proofs.Picking.{Good, locked-good, quick-picking}
 
@@ -43,14 +43,14 @@ module _ {o : List ℕ} {b : ℕ} {marks : List ℕ} (h : Fillable o b marks) wh
   good k = (quick-picking o b h.locked-fit k).good
 
   module _ {parents : List ℕ} (ps : Parents o parents) where
-    pub locked-countable : Countable o (lockedSet o) parents
-    locked-countable = record { base = record { formed = h.formed; is-set = locked-set o }; parents-are = ps }
+    pub locked-has-parents : HasParents o (lockedSet o) parents
+    locked-has-parents = record { base = record { formed = h.formed; is-set = locked-set o }; parents-are = ps }
 
     pub locked-ready : {held : List ℕ} → HeldIn o (lockedSet o) held → PicksFit o parents b (lockedSet o) held
-    locked-ready x = record { ready = record { base = locked-countable; held-are = x }; fits = (locked-good o b h.locked-fit).1 }
+    locked-ready x = record { ready = record { base = locked-has-parents; held-are = x }; fits = (locked-good o b h.locked-fit).1 }
 
-    pub quick-pickable : (k : ℕ) {held : List ℕ} → HeldIn o (quick o b k) held → Pickable o (quick o b k) parents held
-    quick-pickable k x = record { base = record { base = record { formed = h.formed; is-set = (good k).0 }; parents-are = ps }; held-are = x }
+    pub quick-has-held : (k : ℕ) {held : List ℕ} → HeldIn o (quick o b k) held → HasHeld o (quick o b k) parents held
+    quick-has-held k x = record { base = record { base = record { formed = h.formed; is-set = (good k).0 }; parents-are = ps }; held-are = x }
 
 -- after the picks the choice is marked
 pub picks-quick : {o : List ℕ} {b k : ℕ} {marked s held : List ℕ} → marked ≡ lockedSet o → PicksDone o b k marked s held → s ≡ quick o b k

@@ -18,22 +18,22 @@ use Rattle.outline.proofs.Demands.{sizes-give, records-give}
 use Rattle.diversity.specs.Diversity.{chosen, diversity, chosenTaxa}
 use Rattle.diversity.specs.Search.{bestDiversity}
 use Rattle.laws.specs.Locks.{lockedSet}
-use Rattle.laws.proofs.Locks.{held-each}
+use Rattle.laws.proofs.Locks.{held-each, locked-taxa}
 use Rattle.laws.proofs.Optimum.{greatest-diversity}
 use Rattle.choice.specs.Answer as choose
 use Rattle.choice.proofs.Demands.{none-decided, demand-3}
 use Rattle.quick.specs.Quick.{quick}
-use Rattle.quick.specs.Answer.{Call, Figures, Answered, tellings, numbersOf, told, mostPicks, judged, quickSet, figuresOf, reply, marksAfter}
+use Rattle.quick.specs.Answer.{Call, Figures, Answered, reported, numbersOf, told, mostPicks, judged, quickSet, figuresOf, reply, marksAfter}
 use Rattle.quick.specs.Demands.{quickTable, ChosenOrRefused, markedSet, TrueChoice, PicksMade, SameChoice, BestBetween, MorePicks}
 use Rattle.quick.specs.declared.answer.Answer.{Answer}
 use Rattle.quick.proofs.Answers.{outline-formed, locked-fit, quick-good}
-use Rattle.quick.proofs.Picking.{Picking, quick-picking, quick-rises, locked-taxa}
+use Rattle.quick.proofs.Picking.{Picking, quick-picking, quick-rises}
 use Rattle.quick.proofs.Submodular.{ceiling-most}
 
 -- the numbers told determine the answer
 pub told-determined : (a b : Answer) → told a ≡ told b → a ≡ b
 told-determined (Answer.Chosen d k t e) (Answer.Chosen f l u g) h =
-    let same : tellings d k t e ≡ tellings f l u g = ap (λ (r : Reply Figures). r.figures) h in
+    let same : reported d k t e ≡ reported f l u g = ap (λ (r : Reply Figures). r.figures) h in
     rw (
       ap (λ (x : Figures). x.diversity) same,
       ap (λ (x : Figures). x.cost) same,

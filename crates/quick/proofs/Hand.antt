@@ -12,7 +12,7 @@ use Rattle.lists.proofs.Walk.{Folding, folding-starts, folding-goes, folding-end
 use Rattle.outline.specs.Outline.{size, records, isTaxon}
 use Rattle.diversity.specs.Diversity.{chosen, cost}
 use Rattle.quick.specs.Quick.{addedCost, canPick, rather, inHand, picked}
-use Rattle.quick.specs.Inner.{ratherBy, SumsUpTo, Nothing, Known, KnownAt, HandAt, LookedAt, NextPick}
+use Rattle.quick.specs.Inner.{ratherBy, SumsUpTo, NoSums, Known, KnownAt, HandAt, LookedAt, NextPick}
 use Rattle.quick.specs.declared.sums.Sums.{Sums}
 use Rattle.quick.proofs.Adding.{sums-start, known-before}
 use Rattle.quick.proofs.Taxon.{cost-with}
@@ -69,7 +69,7 @@ pub record Choosing (o : List ℕ) (b : ℕ) (s : List ℕ) (sums : Sums) (hand 
   pub sums-are : SumsUpTo o s r sums
 
 module _ {o : List ℕ} {b : ℕ} {s : List ℕ} where
-  pub choosing-starts : {sums : Sums} → Nothing sums → Choosing o b s sums 0 1
+  pub choosing-starts : {sums : Sums} → NoSums sums → Choosing o b s sums 0 1
   choosing-starts n = record { folded = folding-starts _ _ _; hand-before = omega arith; most = omega arith; sums-are = sums-start n }
 
   pub choosing-goes : {sums new : Sums} {hand r v : ℕ} → Choosing o b s sums hand r → r ≤ size o → LookedAt o s b new hand r v

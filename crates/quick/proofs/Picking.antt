@@ -8,15 +8,14 @@ use mathlib.Core.List.{List, foldl}
 use native.Mathlib.Omega.{arith}
 use lib.Dec.{eqb, ltb, leb}
 use borrow.Author.Tests.{eqb-true, eqb-false, ne_eqb, eq-eqb, ltb-true, ltb-false, leb-true, not-true}
-use Rattle.lists.specs.Lists.{one, from}
+use Rattle.lists.specs.Lists.{from}
 use Rattle.lists.proofs.Bools.{both-true}
 use Rattle.outline.specs.Outline.{size, records, isTaxon, IsRecord}
 use Rattle.diversity.specs.Diversity.{chosen, diversity, cost, chosenTaxa}
 use Rattle.diversity.specs.Behind.{IsSet, Fits}
-use Rattle.laws.specs.Locks.{locks, lockedSet}
-use Rattle.laws.proofs.Locks.{held-each, locked-set, locked-chosen, locked-set-holds}
+use Rattle.laws.specs.Locks.{lockedSet}
+use Rattle.laws.proofs.Locks.{held-each, locked-set, locked-set-holds}
 use Rattle.laws.proofs.More.{Implies, diversity-more}
-use Rattle.laws.proofs.Sums.{total-ext}
 use Rattle.quick.specs.Quick.{withTaxon, added, addedCost, canPick, rather, inHand, picked, afterPicks, quick}
 use Rattle.quick.specs.Demands.{Rather, more-added, fewer-quarters, lower-record, IsPick, no-pick, a-pick}
 use Rattle.quick.proofs.Taxon.{taxon-more, with-set, taxa-with}
@@ -201,8 +200,3 @@ module _ (o : List ℕ) (b : ℕ) where
     pub quick-picking : (k : ℕ) → Picking k (lockedSet o) (quick o b k)
     unfolding quick
     quick-picking k = picking k (lockedSet o) locked-good
-
--- so many taxa are locked
-pub locked-taxa : (o : List ℕ) → chosenTaxa o (lockedSet o) ≡ locks o
-unfolding chosenTaxa locks records
-locked-taxa o = total-ext _ _ 1 (size o) (λ r l u. ap one (locked-chosen o r l (omega arith)))

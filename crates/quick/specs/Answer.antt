@@ -27,19 +27,19 @@ pub record Figures : Type 0 where
   pub taxa : ℕ
   pub ceiling : ℕ
 
-abbrev pub tellings : ℕ → ℕ → ℕ → ℕ → Figures
-tellings diversity cost taxa ceiling = record { diversity = diversity; cost = cost; taxa = taxa; ceiling = ceiling }
+abbrev pub reported : ℕ → ℕ → ℕ → ℕ → Figures
+reported diversity cost taxa ceiling = record { diversity = diversity; cost = cost; taxa = taxa; ceiling = ceiling }
 
 -- on a refusal they are 0
 abbrev pub noFigures : Figures
-noFigures = tellings 0 0 0 0
+noFigures = reported 0 0 0 0
 
 abbrev pub numbersOf : Figures → List ℕ
 numbersOf f = f.diversity ∷ f.cost ∷ f.taxa ∷ f.ceiling ∷ []
 
 -- the numbers of each answer
 abbrev pub told : Answer → Reply Figures
-told (Answer.Chosen d c t e) = granted (tellings d c t e)
+told (Answer.Chosen d c t e) = granted (reported d c t e)
 told (Answer.Refused e) = refused noFigures (refusal e)
 
 -- picks go up to this
@@ -62,7 +62,7 @@ quickSet c = quick c.outline c.count c.picks
 
 -- what a set is reported with: its diversity, its cost, its number of taxa, and its ceiling
 unfoldable pub figuresOf : List ℕ → ℕ → List ℕ → Figures
-figuresOf o b s = tellings (diversity o 0 s) (cost o s) (chosenTaxa o s) (ceiling o b s)
+figuresOf o b s = reported (diversity o 0 s) (cost o s) (chosenTaxa o s) (ceiling o b s)
 
 -- what a call is told
 unfoldable pub reply : Call → Reply Figures

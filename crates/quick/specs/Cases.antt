@@ -11,7 +11,7 @@ use Rattle.diversity.specs.Diversity.{chain, clade, chosen, within, rooted, dive
 use Rattle.diversity.specs.Search.{subsets, leads, better, fits, turn, exhaustiveSearch, isHolding, noneFits}
 use Rattle.laws.specs.Locks.{lockedSet}
 use Rattle.quick.specs.Quick.{withTaxon, added, addedCost, canPick, rather, inHand, picked, afterPicks, quick, ceiling}
-use Rattle.quick.specs.Answer.{Call, call, Figures, tellings, noFigures, judged, figuresOf, reply, marksAfter}
+use Rattle.quick.specs.Answer.{Call, call, Figures, reported, noFigures, judged, figuresOf, reply, marksAfter}
 
 -- tree A, with the price of its second group, the length of that group's branch, and the plate field of record 4
 treeA : ℕ → ℕ → ℕ → List ℕ
@@ -41,15 +41,15 @@ nines = 9 ∷ 9 ∷ 9 ∷ 9 ∷ 9 ∷ 9 ∷ []
 pub cases : List Case
 cases =
     -- nothing picked: the ceiling is what each taxon would add, 7 + 5 + 5; a sixth mark is unchanged
-    case (treeA 0 3 12) 5 0 nines (granted (tellings 0 0 0 17)) (0 ∷ 0 ∷ 0 ∷ 0 ∷ 0 ∷ 9 ∷ [])
+    case (treeA 0 3 12) 5 0 nines (granted (reported 0 0 0 17)) (0 ∷ 0 ∷ 0 ∷ 0 ∷ 0 ∷ 9 ∷ [])
     -- plate 11 adds most; then plate 13; then nothing more fits, and plate 12 would add 2
-    ∷ case (treeA 0 3 12) 5 1 nines (granted (tellings 7 3 1 14)) (0 ∷ 0 ∷ 1 ∷ 0 ∷ 0 ∷ 9 ∷ [])
-    ∷ case (treeA 0 3 12) 5 2 nines (granted (tellings 12 5 2 14)) (0 ∷ 0 ∷ 1 ∷ 0 ∷ 1 ∷ 9 ∷ [])
-    ∷ case (treeA 0 3 12) 5 64 nines (granted (tellings 12 5 2 14)) (0 ∷ 0 ∷ 1 ∷ 0 ∷ 1 ∷ 9 ∷ [])
+    ∷ case (treeA 0 3 12) 5 1 nines (granted (reported 7 3 1 14)) (0 ∷ 0 ∷ 1 ∷ 0 ∷ 0 ∷ 9 ∷ [])
+    ∷ case (treeA 0 3 12) 5 2 nines (granted (reported 12 5 2 14)) (0 ∷ 0 ∷ 1 ∷ 0 ∷ 1 ∷ 9 ∷ [])
+    ∷ case (treeA 0 3 12) 5 64 nines (granted (reported 12 5 2 14)) (0 ∷ 0 ∷ 1 ∷ 0 ∷ 1 ∷ 9 ∷ [])
     -- plates 12 and 13 add 5 each, and 12 costs less
-    ∷ case (treeA 0 3 12) 2 1 nines (granted (tellings 5 1 1 10)) (0 ∷ 0 ∷ 0 ∷ 1 ∷ 0 ∷ 9 ∷ [])
+    ∷ case (treeA 0 3 12) 2 1 nines (granted (reported 5 1 1 10)) (0 ∷ 0 ∷ 0 ∷ 1 ∷ 0 ∷ 9 ∷ [])
     -- plate 12 is locked, its heading is 4; plate 13 then adds 5 for 2 quarters, and plate 11 no longer fits
-    ∷ case (treeA 4 3 2147483660) 7 64 nines (granted (tellings 10 7 2 14)) (0 ∷ 0 ∷ 0 ∷ 1 ∷ 1 ∷ 9 ∷ [])
+    ∷ case (treeA 4 3 2147483660) 7 64 nines (granted (reported 10 7 2 14)) (0 ∷ 0 ∷ 0 ∷ 1 ∷ 1 ∷ 9 ∷ [])
     -- refusals: the page count before the picks, these before a field; then the marks, then the locked taxa
     ∷ case (treeA 0 1000001 12) 4097 65 nines (refused noFigures (ruling 4 0)) nines
     ∷ case (treeA 0 1000001 12) 4096 65 nines (refused noFigures (ruling 15 0)) nines

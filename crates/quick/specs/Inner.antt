@@ -58,13 +58,13 @@ pub record Markable (o s : List ℕ) : Type 0 where
   pub is-set : IsSet o s
 
 -- with the way up from each record
-pub record Countable (o s parents : List ℕ) : Type 0 where
+pub record HasParents (o s parents : List ℕ) : Type 0 where
   pub base : Markable o s
   pub parents-are : Parents o parents
 
 -- and the records that the set holds
-pub record Pickable (o s parents held : List ℕ) : Type 0 where
-  pub base : Countable o s parents
+pub record HasHeld (o s parents held : List ℕ) : Type 0 where
+  pub base : HasParents o s parents
   pub held-are : HeldIn o s held
 
 -- ---- what a record would add
@@ -81,7 +81,7 @@ pub record SumsUpTo (o s : List ℕ) (r : ℕ) (sums : Sums) : Type 0 where
   pub costs-are : GainsUpTo (addedCost o s) r sums.costs
 
 -- nothing yet
-pub record Nothing (sums : Sums) : Type 0 where
+pub record NoSums (sums : Sums) : Type 0 where
   pub added-are : sums.added ≡ replicate numbers 0
   pub costs-are : sums.costs ≡ replicate numbers 0
 
@@ -127,7 +127,7 @@ pub record HandAt (o s : List ℕ) (sums : Sums) (hand t : ℕ) : Type 0 where
 
 -- record r is the next to be looked at
 pub record LookAt (o s parents held : List ℕ) (sums : Sums) (hand r : ℕ) : Type 0 where
-  pub ready : Pickable o s parents held
+  pub ready : HasHeld o s parents held
   pub is-record : IsRecord o r
   pub sums-are : SumsUpTo o s r sums
   pub hand-before : hand < r
@@ -146,7 +146,7 @@ pub record NextPick (o : List ℕ) (b : ℕ) (s : List ℕ) (p : Pick) : Type 0 
 -- ---- the picks
 -- a set that fits page count b
 pub record PicksFit (o parents : List ℕ) (b : ℕ) (s held : List ℕ) : Type 0 where
-  pub ready : Pickable o s parents held
+  pub ready : HasHeld o s parents held
   pub fits : Fits o b s
 
 -- the set after at most k picks
@@ -166,7 +166,7 @@ pub record PartAt (o : List ℕ) (b : ℕ) (s : List ℕ) (sums : Sums) (r v : �
 
 -- a marked set, with its diversity
 pub record Bounded (o s parents held : List ℕ) (d : ℕ) : Type 0 where
-  pub ready : Pickable o s parents held
+  pub ready : HasHeld o s parents held
   pub diversity-is : d ≡ diversity o 0 s
 
 -- ---- a choice

@@ -3,9 +3,9 @@ ghost use Rattle.std.specs.Prelude.{◌≡◌};
 ghost use Rattle.lists.specs.Lists.{total};
 ghost use Rattle.outline.specs.Outline.{records};
 ghost use Rattle.quick.specs.Quick.{ceiling};
-ghost use Rattle.quick.specs.Inner.{ceilingPart, LookAt, PartAt, Pickable, Bounded};
+ghost use Rattle.quick.specs.Inner.{ceilingPart, LookAt, PartAt, HasHeld, Bounded};
 
-use super::sums::{Sums, add_up, nothing};
+use super::sums::{Sums, add_up, no_sums};
 use outline::fields::{is_taxon, price_of};
 use outline::limits::NUMBERS;
 
@@ -41,11 +41,11 @@ fn parts_of(
     held: &[u8; NUMBERS],
     count: u32,
 ) -> u64
-    requires { Pickable o.now marks.now parents.now held.now }
+    requires { HasHeld o.now marks.now parents.now held.now }
     ensures { result ≡ total (ceilingPart o.now count marks.now) (records o.now) }
 {
     let n = o.len() / 16;
-    let mut sums = nothing();
+    let mut sums = no_sums();
     let mut sum = 0;
     let mut r = 1;
     while r <= n {

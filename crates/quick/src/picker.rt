@@ -4,9 +4,9 @@ ghost use Rattle.std.specs.Prelude.{◌≡◌, ◌+◌, ◌<◌, get_or};
 ghost use Rattle.outline.specs.Inner.{numbers};
 ghost use Rattle.diversity.specs.Diversity.{cost};
 ghost use Rattle.quick.specs.Quick.{canPick, inHand};
-ghost use Rattle.quick.specs.Inner.{ratherBy, SumsLong, KnownAt, HandAt, LookAt, LookedAt, Pickable, NextPick};
+ghost use Rattle.quick.specs.Inner.{ratherBy, SumsLong, KnownAt, HandAt, LookAt, LookedAt, HasHeld, NextPick};
 
-use super::sums::{Sums, add_up, nothing};
+use super::sums::{Sums, add_up, no_sums};
 use outline::fields::is_taxon;
 use outline::limits::NUMBERS;
 
@@ -77,11 +77,11 @@ pub fn next_pick(
     held: &[u8; NUMBERS],
     room: u32,
 ) -> Pick
-    requires { Pickable o.now marks.now parents.now held.now }
+    requires { HasHeld o.now marks.now parents.now held.now }
     ensures { NextPick o.now (cost o.now marks.now + room) marks.now result }
 {
     let n = o.len() / 16;
-    let mut sums = nothing();
+    let mut sums = no_sums();
     let mut hand = 0;
     let mut r = 1;
     while r <= n {

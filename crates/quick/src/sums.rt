@@ -1,6 +1,6 @@
 // What each record would add to a set.
 ghost use Rattle.std.specs.Prelude.{◌≡◌};
-ghost use Rattle.quick.specs.Inner.{Nothing, CanAdd, AddedUp};
+ghost use Rattle.quick.specs.Inner.{NoSums, CanAdd, AddedUp};
 
 use outline::fields::{branch_of, price_of};
 use outline::limits::NUMBERS;
@@ -13,8 +13,8 @@ pub struct Sums {
 }
 
 // Before any record was looked at.
-pub fn nothing() -> Sums
-    ensures { Nothing result }
+pub fn no_sums() -> Sums
+    ensures { NoSums result }
 {
     Sums {
         added: [0; NUMBERS],

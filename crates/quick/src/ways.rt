@@ -1,7 +1,7 @@
 // The way up from each record, and which records count for a set.
 ghost use Rattle.std.specs.Prelude.{◌≡◌};
 ghost use Rattle.outline.specs.WellFormed.{WellFormed};
-ghost use Rattle.quick.specs.Inner.{Parents, Rising, Joined, Countable, HeldIn};
+ghost use Rattle.quick.specs.Inner.{Parents, Rising, Joined, HasParents, HeldIn};
 
 use outline::fields::{first_of, next_of};
 use outline::limits::NUMBERS;
@@ -42,7 +42,7 @@ pub fn hold(parents: &[usize; NUMBERS], held: &mut [u8; NUMBERS], t: usize)
 
 // The records that a marked set holds: those that have a taxon of the set at or below them, so that their branches and prices count.
 pub fn held_of(o: &[u8], marks: &[u8], parents: &[usize; NUMBERS]) -> [u8; NUMBERS]
-    requires { Countable o.now marks.now parents.now }
+    requires { HasParents o.now marks.now parents.now }
     ensures { HeldIn o.now marks.now result }
 {
     let n = o.len() / 16;

@@ -1,5 +1,6 @@
 -- `quick::ceiling::ceiling_of` meets its contract.
-use Rattle.std.proofs.Common.{arith}
+use Rattle.std.proofs.Common.{◌*◌, ◌≤◌, arith}
+use Rattle.outline.specs.Rules.{mostRecords, mostLength}
 use Rattle.quick.specs.Quick.{ceiling}
 use Rattle.quick.proofs.Bounds.{diversity-bound, parts-most}
 use Rattle.quick.proofs.ceiling.ceiling_of.Goals as goal
@@ -8,16 +9,8 @@ pub overflow_add-result : goal.overflow_add-result
 overflow_add-result c =
     let o = c.args.o.now in
     let formed = c.requires.ready.base.base.formed in
-    record {
-      fits = omega (
-        arith,
-        c.requires.diversity-is,
-        diversity-bound o formed c.args.marks.now,
-        formed.size-most,
-        c.parts_of.ensures,
-        parts-most o formed c.args.count c.args.marks.now,
-      );
-    }
+    let most : c.parts_of.result ≤ mostRecords * (mostRecords * mostLength) = rw c.parts_of.ensures (parts-most o formed _ _) in
+    record { fits = omega (arith, c.requires.diversity-is, diversity-bound o formed c.args.marks.now, formed.size-most) }
 
 pub returns : goal.returns
 unfolding ceiling

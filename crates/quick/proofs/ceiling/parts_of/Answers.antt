@@ -5,7 +5,7 @@ use Rattle.quick.proofs.Bounds.{part-most}
 use Rattle.quick.proofs.ceiling.parts_of.Goals as goal
 
 pub loop-r-init : goal.loop-r-init
-loop-r-init c = (summing-starts _ _, sums-start c.nothing-sums.ensures)
+loop-r-init c = (summing-starts _ _, sums-start c.no_sums-sums.ensures)
 
 pub loop-r-preserved : goal.loop-r-preserved
 loop-r-preserved c =

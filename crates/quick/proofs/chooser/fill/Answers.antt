@@ -1,12 +1,12 @@
 -- `quick::chooser::fill` meets its contract.
 use Rattle.std.proofs.Common.{◌∙◌}
-use Rattle.quick.proofs.Answers.{locked-marks, locked-countable, locked-ready, picks-quick, quick-pickable, measured-filled}
+use Rattle.quick.proofs.Answers.{locked-marks, locked-has-parents, locked-ready, picks-quick, quick-has-held, measured-filled}
 use Rattle.quick.proofs.chooser.fill.Goals as goal
 
 pub held_of-held-requires : goal.held_of-held-requires
 held_of-held-requires c =
     let marked = c.mark_locked.ensures ∙ locked-marks c.requires in
-    rw marked (locked-countable c.requires c.parents_of-parents.ensures)
+    rw marked (locked-has-parents c.requires c.parents_of-parents.ensures)
 
 pub make_picks-requires : goal.make_picks-requires
 make_picks-requires c =
@@ -17,7 +17,7 @@ pub ceiling_of-requires : goal.ceiling_of-requires
 ceiling_of-requires c =
     let chosen = picks-quick (c.mark_locked.ensures ∙ locked-marks c.requires) c.make_picks.ensures in
     record {
-      ready = rw chosen (quick-pickable c.requires c.parents_of-parents.ensures c.args.picks (rw chosen at c.make_picks.ensures.held-are));
+      ready = rw chosen (quick-has-held c.requires c.parents_of-parents.ensures c.args.picks (rw chosen at c.make_picks.ensures.held-are));
       diversity-is = c.measure-set.ensures.diversity-is;
     }
 

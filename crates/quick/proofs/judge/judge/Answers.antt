@@ -1,79 +1,74 @@
 -- `quick::judge::judge` meets its contract: the rows that passed leave the answer to the next one.
-use Rattle.std.proofs.Common.{ℕ, ◌<◌, ◌≤◌, ◌≡◌, length, sym, ap, lt-ltb, le-ltb}
-use Rattle.refusals.specs.Refusals.{Ruling, ruling, passed, refusal}
+use Rattle.std.proofs.Common.{ℕ, ◌<◌, ◌≤◌, ◌≡◌, length, ltb, sym, ap, lt-ltb, le-ltb}
+use Rattle.refusals.specs.Refusals.{Ruling, ruling, passed, refusal, ◌▸◌, row}
 use Rattle.refusals.specs.declared.verdict.Refusal.{Refusal}
 use Rattle.refusals.proofs.Refusals.{refusal-not-zero}
 use Rattle.outline.specs.Outline.{size}
 use Rattle.outline.specs.Answer.{sizeRows, recordRows}
 use Rattle.outline.proofs.WellFormed.{sizes-formed, rows-kept}
 use Rattle.diversity.specs.Diversity.{cost}
+use Rattle.diversity.specs.Search.{noneFits}
 use Rattle.laws.specs.Locks.{lockedSet}
 use Rattle.laws.proofs.Optimum.{none-exactly}
 use Rattle.choice.specs.Answer.{mostCount}
 use Rattle.quick.specs.Answer.{Call, mostPicks, judged}
 use Rattle.quick.proofs.judge.judge.Goals as goal
 
--- the first row that holds is given, if those before it passed
+-- the rows that are left where those before them passed, and the first of them that holds
 module _ (k : Call) where
-  sizes-hold : (e : Refusal) → refusal e ≡ sizeRows k.outline → refusal e ≡ judged k
-  unfolding judged
-  sizes-hold e h = rw (← h, refusal-not-zero e)
+  abbrev after8 : Ruling
+  after8 = row 9 (ltb (length k.marks) (size k.outline)) ▸ row 12 (noneFits k.outline 0 k.count)
+
+  abbrev after4 : Ruling
+  after4 = row 15 (ltb mostPicks k.picks) ▸ recordRows k.outline ▸ after8
 
   module _ (sized : passed ≡ sizeRows k.outline) where
-    row4-holds : mostCount < k.count → ruling 4 0 ≡ judged k
+    passed3 : row 4 (ltb mostCount k.count) ▸ after4 ≡ judged k
     unfolding judged
-    row4-holds h = rw (← sized, lt-ltb mostCount k.count h)
+    passed3 = rw (← sized)
+
+    row4-holds : mostCount < k.count → ruling 4 0 ≡ judged k
+    row4-holds h = rw (lt-ltb mostCount k.count h) at passed3
 
     module _ (low : k.count ≤ mostCount) where
+      passed4 : after4 ≡ judged k
+      passed4 = rw (le-ltb mostCount k.count low) at passed3
+
       row15-holds : mostPicks < k.picks → ruling 15 0 ≡ judged k
-      unfolding judged
-      row15-holds h = rw (← sized, le-ltb mostCount k.count low, lt-ltb mostPicks k.picks h)
+      row15-holds h = rw (lt-ltb mostPicks k.picks h) at passed4
 
       module _ (few : k.picks ≤ mostPicks) where
+        passed15 : recordRows k.outline ▸ after8 ≡ judged k
+        passed15 = rw (le-ltb mostPicks k.picks few) at passed4
+
         records-hold : (e : Refusal) → refusal e ≡ recordRows k.outline → refusal e ≡ judged k
-        unfolding judged
-        records-hold e h = rw (← sized, le-ltb mostCount k.count low, le-ltb mostPicks k.picks few, ← h, refusal-not-zero e)
+        records-hold e h = rw (← h, refusal-not-zero e) at passed15
 
         module _ (kept : passed ≡ recordRows k.outline) where
+          passed8 : after8 ≡ judged k
+          passed8 = rw (← kept) at passed15
+
           row9-holds : length k.marks < size k.outline → ruling 9 0 ≡ judged k
-          unfolding judged
-          row9-holds h = rw (← sized, le-ltb mostCount k.count low, le-ltb mostPicks k.picks few, ← kept, lt-ltb (length k.marks) (size k.outline) h)
+          row9-holds h = rw (lt-ltb (length k.marks) (size k.outline) h) at passed8
 
-          module _ (long : size k.outline ≤ length k.marks) {dear : ℕ} (is : dear ≡ cost k.outline (lockedSet k.outline)) where
-            row12-holds : k.count < dear → ruling 12 0 ≡ judged k
-            unfolding judged
-            row12-holds h =
-                rw (
-                  ← sized,
-                  le-ltb mostCount k.count low,
-                  le-ltb mostPicks k.picks few,
-                  ← kept,
-                  le-ltb (length k.marks) (size k.outline) long,
-                  none-exactly,
-                  ← is,
-                  lt-ltb k.count dear h,
-                )
+          module _ (long : size k.outline ≤ length k.marks) where
+            -- row 12 goes by what the locked taxa cost
+            passed9 : {dear : ℕ} → dear ≡ cost k.outline (lockedSet k.outline) → row 12 (ltb k.count dear) ≡ judged k
+            passed9 is = rw is (rw none-exactly at (rw (le-ltb (length k.marks) (size k.outline) long) at passed8))
 
-            none-holds : dear ≤ k.count → passed ≡ judged k
-            unfolding judged
-            none-holds h =
-                rw (
-                  ← sized,
-                  le-ltb mostCount k.count low,
-                  le-ltb mostPicks k.picks few,
-                  ← kept,
-                  le-ltb (length k.marks) (size k.outline) long,
-                  none-exactly,
-                  ← is,
-                  le-ltb k.count dear h,
-                )
+            row12-holds : {dear : ℕ} → dear ≡ cost k.outline (lockedSet k.outline) → k.count < dear → ruling 12 0 ≡ judged k
+            row12-holds {dear} is h = rw (lt-ltb k.count dear h) at (passed9 is)
+
+            none-holds : {dear : ℕ} → dear ≡ cost k.outline (lockedSet k.outline) → dear ≤ k.count → passed ≡ judged k
+            none-holds {dear} is h = rw (le-ltb k.count dear h) at (passed9 is)
 
 -- rows of which none is given have the number 0
 none-given : {t : Ruling} → passed ≡ t → t.number ≡ 0
 none-given e = ap (λ (t : Ruling). t.number) (sym e)
 
 pub returns-in-Refused : goal.returns-in-Refused
-returns-in-Refused c = rw c.in-Refused.is (sizes-hold _ _ c.in-Refused.ensures)
+unfolding judged
+returns-in-Refused c = rw (c.in-Refused.is, ← c.in-Refused.ensures, refusal-not-zero)
 
 pub returns-then-count-gt-MOST_COUNT : goal.returns-then-count-gt-MOST_COUNT
 returns-then-count-gt-MOST_COUNT c = row4-holds _ c.in_default.ensures c.if-count-gt-MOST_COUNT.true
