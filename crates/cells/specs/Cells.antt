@@ -13,8 +13,8 @@ abbrev pub lift : ℕ
 lift = 4294967296
 
 -- a set's code is a number of one word, below this
-abbrev pub wordLimit : ℕ
-wordLimit = 2 ^ 64
+abbrev pub word_limit : ℕ
+word_limit = 2 ^ 64
 
 -- the candidate of a score and a set; the score is (locked times the lift, and diversity + 1) times the unit, less the cost, or 0 for none
 unfoldable pub seen : ℕ → ℕ → Cand
@@ -26,34 +26,34 @@ unfoldable pub view : Candidate → Cand
 view c = seen c.score c.set
 
 -- its parts, 0 for none
-unfoldable pub lockedOf : Cand → ℕ
-lockedOf none = 0
-lockedOf (some v) = v.locked
+unfoldable pub locked_of : Cand → ℕ
+locked_of none = 0
+locked_of (some v) = v.locked
 
-unfoldable pub diversityOf : Cand → ℕ
-diversityOf none = 0
-diversityOf (some v) = v.diversity
+unfoldable pub diversity_of : Cand → ℕ
+diversity_of none = 0
+diversity_of (some v) = v.diversity
 
-unfoldable pub costOf : Cand → ℕ
-costOf none = 0
-costOf (some v) = v.cost
+unfoldable pub cost_of : Cand → ℕ
+cost_of none = 0
+cost_of (some v) = v.cost
 
-unfoldable pub codeOf : Cand → ℕ
-codeOf none = 0
-codeOf (some v) = v.code
+unfoldable pub code_of : Cand → ℕ
+code_of none = 0
+code_of (some v) = v.code
 
 -- the sums of two candidates keep to their words
 pub record Joinable (c d : Cand) : Type 0 where
-  pub locked-fits : lockedOf c + lockedOf d < unit - 1
-  pub diversity-fits : diversityOf c + diversityOf d < lift
-  pub cost-fits : costOf c + costOf d < unit
-  pub code-fits : codeOf c + codeOf d < wordLimit
+  pub locked_fits : locked_of c + locked_of d < unit - 1
+  pub diversity_fits : diversity_of c + diversity_of d < lift
+  pub cost_fits : cost_of c + cost_of d < unit
+  pub code_fits : code_of c + code_of d < word_limit
 
 -- a candidate charged with a heading keeps to its words
 pub record Chargeable (c : Cand) (branch price : ℕ) : Type 0 where
-  pub locked-fits : lockedOf c < unit - 1
-  pub diversity-fits : branch + diversityOf c < lift
-  pub cost-fits : price + costOf c < unit
+  pub locked_fits : locked_of c < unit - 1
+  pub diversity_fits : branch + diversity_of c < lift
+  pub cost_fits : price + cost_of c < unit
 
 -- the candidate at a cell, which is two numbers of a list
 unfoldable pub cell : List ℕ → ℕ → Cand

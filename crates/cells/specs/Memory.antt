@@ -1,12 +1,12 @@
 -- Rows of candidates in a list of numbers, and what is written of them.
 use Rattle.std.specs.Prelude.{if◌then◌else◌, ℕ, ◌+◌, ◌*◌, ◌-◌, ◌<◌, ◌≤◌, ◌≡◌, ◌⊎◌, ◌≢◌, List, leb, length}
-use Rattle.laws.specs.Candidate.{nothingWorth, heading, Cand, none, some, betterOf, joinOf, chargeOf}
-use Rattle.rows.specs.Rows.{Row, betterRow}
+use Rattle.laws.specs.Candidate.{nothing_worth, heading, Cand, none, some, better_of, join_of, charge_of}
+use Rattle.rows.specs.Rows.{Row, better_row}
 use Rattle.cells.specs.Cells.{cell, Joinable, Chargeable}
 
 -- the row that begins at a cell
-abbrev pub rowAt : List ℕ → ℕ → Row
-rowAt l at b = cell l (at + b)
+abbrev pub row_at : List ℕ → ℕ → Row
+row_at l at b = cell l (at + b)
 
 -- two rows of w columns that begin at these cells have no cell in common
 abbrev pub Apart : ℕ → ℕ → ℕ → Type 0
@@ -28,7 +28,7 @@ Blank l a w = a ≡ 0 → (b : ℕ) → b < w → cell l (a + b) ≡ none
 
 -- the row at a, if it is the one at w, has nothing chosen in any column
 abbrev pub Idle : List ℕ → ℕ → ℕ → Type 0
-Idle l a w = a ≡ w → (b : ℕ) → b < w → cell l (a + b) ≡ some nothingWorth
+Idle l a w = a ≡ w → (b : ℕ) → b < w → cell l (a + b) ≡ some nothing_worth
 
 -- l has a row of w columns at a, which is not overtaken while the row at `to` is written from left to right
 pub record Reads (l : List ℕ) (to a w : ℕ) : Type 0 where
@@ -43,35 +43,35 @@ pub record Betters (l : List ℕ) (to x y w : ℕ) : Type 0 where
   pub blank : Blank l y w
 
 -- the one candidate from its price on, together with what the row has for the rest
-unfoldable pub joinFrom : Cand → ℕ → Row → Row
-joinFrom c price x b = if leb price b then joinOf c (x (b - price)) else none
+unfoldable pub join_from : Cand → ℕ → Row → Row
+join_from c price x b = if leb price b then join_of c (x (b - price)) else none
 
 -- the one candidate joined with the better of x and y, or else z
-abbrev pub joinOver : Cand → ℕ → Row → Row → Row → Row
-joinOver c price x y z b = betterOf (joinFrom c price (betterRow x y) b) (z b)
+abbrev pub join_over : Cand → ℕ → Row → Row → Row → Row
+join_over c price x y z b = better_of (join_from c price (better_row x y) b) (z b)
 
 -- x below a heading, or else y
-abbrev pub chargeOver : Row → ℕ → ℕ → Row → Row
-chargeOver x branch price y b = betterOf (joinFrom (some (heading branch price)) price x b) (y b)
+abbrev pub charge_over : Row → ℕ → ℕ → Row → Row
+charge_over x branch price y b = better_of (join_from (some (heading branch price)) price x b) (y b)
 
 -- the ways to write a row: bettered by one candidate; the better of two; one below a heading or else another, from the price of
 -- the heading on, or all of it in place; and one below groups that cost `above`, joined with the better of two or else a third,
 -- from a cost on
 abbrev pub BetteringBy : ℕ → Cand → ℕ → ℕ → List ℕ → List ℕ → Type 0
-BetteringBy to c lo hi l m = RowWritten to lo hi (λ b. betterOf (cell l (to + b)) c) l m
+BetteringBy to c lo hi l m = RowWritten to lo hi (λ b. better_of (cell l (to + b)) c) l m
 
 abbrev pub Bettering : ℕ → ℕ → ℕ → ℕ → List ℕ → List ℕ → Type 0
-Bettering to x y w l m = RowWritten to 0 w (betterRow (rowAt l x) (rowAt l y)) l m
+Bettering to x y w l m = RowWritten to 0 w (better_row (row_at l x) (row_at l y)) l m
 
 abbrev pub ChargingFrom : ℕ → ℕ → ℕ → ℕ → ℕ → ℕ → List ℕ → List ℕ → Type 0
-ChargingFrom to x branch price y w l m = RowWritten to price w (chargeOver (rowAt l x) branch price (rowAt l y)) l m
+ChargingFrom to x branch price y w l m = RowWritten to price w (charge_over (row_at l x) branch price (row_at l y)) l m
 
 abbrev pub Charging : ℕ → ℕ → ℕ → ℕ → ℕ → List ℕ → List ℕ → Type 0
-Charging to branch price y w l m = RowWritten to 0 w (chargeOver (rowAt l to) branch price (rowAt l y)) l m
+Charging to branch price y w l m = RowWritten to 0 w (charge_over (row_at l to) branch price (row_at l y)) l m
 
 abbrev pub Joining : ℕ → ℕ → ℕ → ℕ → ℕ → ℕ → ℕ → ℕ → List ℕ → List ℕ → Type 0
 Joining to own above cost x y z w l m =
-    RowWritten to cost w (λ b. joinOver (chargeOf (cell l (own + b)) 0 above) cost (rowAt l x) (rowAt l y) (rowAt l z) b) l m
+    RowWritten to cost w (λ b. join_over (charge_of (cell l (own + b)) 0 above) cost (row_at l x) (row_at l y) (row_at l z) b) l m
 
 -- l has a row of w columns at a, which is not overtaken while the row at `to` is written from right to left
 pub record ReadsBack (l : List ℕ) (to a w : ℕ) : Type 0 where
@@ -90,26 +90,26 @@ pub record ChargesFrom (l : List ℕ) (to a branch price b w : ℕ) : Type 0 whe
 pub record Charges (l : List ℕ) (to branch price b w : ℕ) : Type 0 where
   pub inside : 2 * (to + w) ≤ length l
   pub above : w ≤ to
-  pub over-inside : 2 * (b + w) ≤ length l
-  pub over-apart : Apart to b w
+  pub over_inside : 2 * (b + w) ≤ length l
+  pub over_apart : Apart to b w
   pub blank : Blank l b w
-  pub none-row : Blank l 0 w
+  pub none_row : Blank l 0 w
   pub fits : (i : ℕ) → i + price < w → Chargeable (cell l (to + i)) branch price
 
 -- two rows of w columns beside the one at `to`, apart from it: the first may be that of nothing chosen, the second that of no set
 pub record Beside (l : List ℕ) (to x y w : ℕ) : Type 0 where
-  pub first-inside : 2 * (x + w) ≤ length l
-  pub first-apart : Apart to x w
-  pub first-idle : Idle l x w
-  pub second-inside : 2 * (y + w) ≤ length l
-  pub second-apart : Apart to y w
-  pub second-blank : Blank l y w
+  pub first_inside : 2 * (x + w) ≤ length l
+  pub first_apart : Apart to x w
+  pub first_idle : Idle l x w
+  pub second_inside : 2 * (y + w) ≤ length l
+  pub second_apart : Apart to y w
+  pub second_blank : Blank l y w
 
 -- what reading column b of two rows asks
 pub record Follows (l : List ℕ) (x y b w : ℕ) : Type 0 where
-  pub first-inside : 2 * (x + b) + 1 < length l
-  pub idle : x ≡ w → cell l (x + b) ≡ some nothingWorth
-  pub second-inside : 2 * (y + b) + 1 < length l
+  pub first_inside : 2 * (x + b) + 1 < length l
+  pub idle : x ≡ w → cell l (x + b) ≡ some nothing_worth
+  pub second_inside : 2 * (y + b) + 1 < length l
   pub blank : y ≡ 0 → cell l (y + b) ≡ none
 
 -- what joining the row at `own`, below groups that cost `above`, with the rows at x and y asks
@@ -118,15 +118,15 @@ pub record Joins (l : List ℕ) (to own above cost x y z w : ℕ) : Type 0 where
   pub taken : Reads l to own w
   pub beside : Beside l to x y w
   pub over : Reads l to z w
-  pub over-blank : Blank l z w
-  pub there : (b : ℕ) → cost ≤ b → b < w → chargeOf (cell l (own + b)) 0 above ≢ none
-  pub charge-fits : (b : ℕ) → cost ≤ b → b < w → Chargeable (cell l (own + b)) 0 above
-  pub join-fits : (b : ℕ) → cost ≤ b → b < w
-      → Joinable (chargeOf (cell l (own + b)) 0 above) (betterOf (cell l (x + (b - cost))) (cell l (y + (b - cost))))
+  pub over_blank : Blank l z w
+  pub there : (b : ℕ) → cost ≤ b → b < w → charge_of (cell l (own + b)) 0 above ≢ none
+  pub charge_fits : (b : ℕ) → cost ≤ b → b < w → Chargeable (cell l (own + b)) 0 above
+  pub join_fits : (b : ℕ) → cost ≤ b → b < w
+      → Joinable (charge_of (cell l (own + b)) 0 above) (better_of (cell l (x + (b - cost))) (cell l (y + (b - cost))))
 
 -- what adding a row to one of nothing chosen asks
 pub record Adds (l : List ℕ) (to y w : ℕ) : Type 0 where
   pub inside : 2 * (to + w) ≤ length l
-  pub nothing : (b : ℕ) → b < w → cell l (to + b) ≡ some nothingWorth
+  pub nothing : (b : ℕ) → b < w → cell l (to + b) ≡ some nothing_worth
   pub other : Reads l to y w
   pub blank : Blank l y w

@@ -1,7 +1,7 @@
 // A candidate: a set of taxa and what it is worth, or none.
 ghost use Rattle.std.specs.Prelude.{◌≡◌, ◌≢◌, ◌-◌, ◌<◌};
-ghost use Rattle.laws.specs.Candidate.{nothingWorth, none, some, betterOf, joinOf, chargeOf};
-ghost use Rattle.cells.specs.Cells.{unit, lift, view, lockedOf, diversityOf, costOf, Joinable, Chargeable};
+ghost use Rattle.laws.specs.Candidate.{nothing_worth, none, some, better_of, join_of, charge_of};
+ghost use Rattle.cells.specs.Cells.{unit, lift, view, locked_of, diversity_of, cost_of, Joinable, Chargeable};
 
 // A score takes locked taxa and diversity times UNIT, less the cost. Costs are below UNIT, so that scores compare by cost last.
 pub const UNIT: u64 = 65536;
@@ -38,7 +38,7 @@ impl Candidate {
 
     // More locked taxa, then more diversity, then less cost, then the greater number, which has the first taxon on which two sets differ.
     pub fn better(self, other: Candidate) -> Self
-        ensures { view result ≡ betterOf (view self) (view other) }
+        ensures { view result ≡ better_of (view self) (view other) }
     {
         if self.score == other.score {
             if self.set < other.set {
@@ -54,7 +54,7 @@ impl Candidate {
 
     // Nothing chosen, and another set: the other. The words add up whether it is there or not.
     pub fn added(self, other: Candidate) -> Self
-        requires { view self ≡ some nothingWorth }
+        requires { view self ≡ some nothing_worth }
         ensures { view result ≡ view other }
     {
         Self {
@@ -66,7 +66,7 @@ impl Candidate {
     // Both sets together, which have no taxon in common: this one is there; none if the other is none.
     pub fn joined(self, other: Candidate) -> Self
         requires { Joinable (view self) (view other) × (view self ≢ none) }
-        ensures { view result ≡ joinOf (view self) (view other) }
+        ensures { view result ≡ join_of (view self) (view other) }
     {
         if other.score == 0 {
             return other;
@@ -80,7 +80,7 @@ impl Candidate {
     // The set with a heading above it: a branch and a price.
     pub fn charged(self, branch: u64, price: u64) -> Self
         requires { Chargeable (view self) branch price }
-        ensures { view result ≡ chargeOf (view self) branch price }
+        ensures { view result ≡ charge_of (view self) branch price }
     {
         if self.score == 0 {
             return self;
@@ -93,7 +93,7 @@ impl Candidate {
 
     // 0 for no set.
     pub fn diversity(self) -> u64
-        ensures { result ≡ diversityOf (view self) }
+        ensures { result ≡ diversity_of (view self) }
     {
         if self.score == 0 {
             return 0;
@@ -103,7 +103,7 @@ impl Candidate {
 
     // 0 for no set.
     pub fn locked(self) -> u64
-        ensures { result ≡ lockedOf (view self) }
+        ensures { result ≡ locked_of (view self) }
     {
         if self.score == 0 {
             return 0;
@@ -113,7 +113,7 @@ impl Candidate {
 
     // 0 for no set.
     pub fn cost(self) -> u64
-        ensures { result ≡ costOf (view self) }
+        ensures { result ≡ cost_of (view self) }
     {
         if self.score == 0 {
             return 0;

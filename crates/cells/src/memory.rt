@@ -1,8 +1,8 @@
 // Rows of candidates in lent memory: one loop over the columns each.
 ghost use Rattle.std.specs.Prelude.{◌≡◌, ◌+◌, ◌*◌, ◌<◌, ◌≤◌, min, length};
-ghost use Rattle.laws.specs.Candidate.{none, betterOf};
+ghost use Rattle.laws.specs.Candidate.{none, better_of};
 ghost use Rattle.cells.specs.Cells.{view, cell};
-ghost use Rattle.cells.specs.Memory.{rowAt, Put, RowWritten, Betters, Bettering, BetteringBy, ChargesFrom, ChargingFrom};
+ghost use Rattle.cells.specs.Memory.{row_at, Put, RowWritten, Betters, Bettering, BetteringBy, ChargesFrom, ChargingFrom};
 ghost use Rattle.cells.specs.Memory.{Charges, Charging, Follows, Joins, Joining, Adds};
 
 use super::candidate::Candidate;
@@ -131,7 +131,7 @@ pub fn charge_row(work: &mut [u64], to: usize, branch: u64, price: usize, y: usi
 // What may follow in a column: the better of two rows'. The row at `width` has nothing chosen in any column, so it is not read.
 fn follower(work: &[u64], x: usize, y: usize, b: usize, width: usize) -> Candidate
     requires { Follows work.now x y b width }
-    ensures { view result ≡ betterOf (cell work.now (x + b)) (cell work.now (y + b)) }
+    ensures { view result ≡ better_of (cell work.now (x + b)) (cell work.now (y + b)) }
 {
     let other = column(work, y, b);
     if x == width {
@@ -169,7 +169,7 @@ pub fn join_row(
 // Adds another row to one that has nothing chosen in any column: what the two have together is what the other has.
 pub fn add_row(work: &mut [u64], to: usize, y: usize, width: usize)
     requires { Adds work.old to y width }
-    ensures { RowWritten to 0 width (rowAt work.old y) work.old work.new }
+    ensures { RowWritten to 0 width (row_at work.old y) work.old work.new }
 {
     let mut b = 0;
     while b < width {

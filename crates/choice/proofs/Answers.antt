@@ -10,17 +10,17 @@ use lib.ListN.{length, take, drop, length-replicate}
 use lib.Seq.{length-take-le}
 use borrow.Author.Tests.{ltb-false, eqb-true}
 use Rattle.lists.specs.Lists.{over}
-use Rattle.lists.proofs.Bools.{both-false}
+use Rattle.lists.proofs.Bools.{both_false}
 use Rattle.refusals.specs.Refusals.{refusal}
 use Rattle.refusals.specs.declared.verdict.Refusal.{Refusal}
-use Rattle.refusals.proofs.Tables.{two-ways}
-use Rattle.refusals.proofs.Refusals.{both-pass, row-fails, refusal-not-zero}
-use Rattle.outline.specs.Answer.{sizeRows, recordRows, checked}
-use Rattle.outline.proofs.WellFormed.{rows-kept}
-use Rattle.diversity.specs.Search.{noneFits}
-use Rattle.laws.proofs.Optimum.{none-exactly}
-use Rattle.choice.specs.Answer.{Call, Answered, told, mostCount, workTaken, tooShort, judged, isSelected, figures, reply}
-use Rattle.choice.specs.Answer.{curveOf, marksAfter, curveAfter, workAfter}
+use Rattle.refusals.proofs.Tables.{two_ways}
+use Rattle.refusals.proofs.Refusals.{both_pass, row_fails, refusal_not_zero}
+use Rattle.outline.specs.Answer.{size_rows, record_rows, checked}
+use Rattle.outline.proofs.WellFormed.{rows_kept}
+use Rattle.diversity.specs.Search.{none_fits}
+use Rattle.laws.proofs.Optimum.{none_exactly}
+use Rattle.choice.specs.Answer.{Call, Answered, told, most_count, work_taken, too_short, judged, is_selected, figures, reply}
+use Rattle.choice.specs.Answer.{curve_of, marks_after, curve_after, work_after}
 use Rattle.choice.specs.Inner.{Solvable, Solved}
 use Rattle.choice.specs.declared.answer.Answer.{Answer}
 
@@ -28,94 +28,94 @@ module _ (c : Call) where
   -- the rows, one by one, where none holds
   record Passes : Type 0 where
     ways : (not (eqb c.way 0) && not (eqb c.way 1)) ≡ false
-    sizes : (sizeRows c.outline).number ≡ 0
-    low : c.count ≤ mostCount
-    rows : (recordRows c.outline).number ≡ 0
-    long : tooShort c ≡ false
-    some-fit : noneFits c.outline c.way c.count ≡ false
+    sizes : (size_rows c.outline).number ≡ 0
+    low : c.count ≤ most_count
+    rows : (record_rows c.outline).number ≡ 0
+    long : too_short c ≡ false
+    some_fit : none_fits c.outline c.way c.count ≡ false
 
-  rows-pass : isSelected c ≡ true → Passes
+  rows_pass : is_selected c ≡ true → Passes
   unfolding judged
-  rows-pass e =
-      let one = both-pass _ _ (eqb-true _ _ e) in
-      let three = both-pass _ _ one.1 in
-      let four = both-pass _ _ three.1 in
-      let eight = both-pass _ _ four.1 in
-      let nine = both-pass _ _ eight.1 in
+  rows_pass e =
+      let one = both_pass _ _ (eqb-true _ _ e) in
+      let three = both_pass _ _ one.1 in
+      let four = both_pass _ _ three.1 in
+      let eight = both_pass _ _ four.1 in
+      let nine = both_pass _ _ eight.1 in
       record {
-        ways = row-fails _ _ one.0;
+        ways = row_fails _ _ one.0;
         sizes = three.0;
-        low = ltb-false _ _ (row-fails _ _ four.0);
+        low = ltb-false _ _ (row_fails _ _ four.0);
         rows = eight.0;
-        long = row-fails _ _ nine.0;
-        some-fit = row-fails _ _ nine.1;
+        long = row_fails _ _ nine.0;
+        some_fit = row_fails _ _ nine.1;
       }
 
-  pub way-known : isSelected c ≡ true → (c.way ≡ 0) ⊎ (c.way ≡ 1)
-  way-known e = two-ways c.way (rows-pass e).ways
+  pub way_known : is_selected c ≡ true → (c.way ≡ 0) ⊎ (c.way ≡ 1)
+  way_known e = two_ways c.way (rows_pass e).ways
 
   -- the check accepts its outline
-  pub selected-accepted : isSelected c ≡ true → (checked c.outline).number ≡ 0
+  pub selected_accepted : is_selected c ≡ true → (checked c.outline).number ≡ 0
   unfolding checked
-  selected-accepted e = rw (rows-pass e).sizes (rows-pass e).rows
+  selected_accepted e = rw (rows_pass e).sizes (rows_pass e).rows
 
-  pub selected-solvable : isSelected c ≡ true → Solvable c
-  unfolding tooShort
-  selected-solvable e =
-      let p = rows-pass e in
-      let short = both-false _ _ p.long in
-      let rest = both-false _ _ short.1 in
+  pub selected_solvable : is_selected c ≡ true → Solvable c
+  unfolding too_short
+  selected_solvable e =
+      let p = rows_pass e in
+      let short = both_false _ _ p.long in
+      let rest = both_false _ _ short.1 in
       record {
-        formed = rows-kept c.outline p.sizes p.rows;
+        formed = rows_kept c.outline p.sizes p.rows;
         low = p.low;
-        locked-fit = ltb-false _ _ (sym (none-exactly _ _ _) ∙ p.some-fit);
-        marks-long = ltb-false _ _ short.0;
-        curve-long = ltb-false _ _ rest.0;
-        work-long = ltb-false _ _ rest.1;
+        locked_fit = ltb-false _ _ (sym (none_exactly _ _ _) ∙ p.some_fit);
+        marks_long = ltb-false _ _ short.0;
+        curve_long = ltb-false _ _ rest.0;
+        work_long = ltb-false _ _ rest.1;
       }
 
   -- the call with the first n numbers of work
-  abbrev pub withWork : ℕ → Call
-  withWork n = record { outline = c.outline; count = c.count; way = c.way; marks = c.marks; curve = c.curve; work = take n c.work }
+  abbrev pub with_work : ℕ → Call
+  with_work n = record { outline = c.outline; count = c.count; way = c.way; marks = c.marks; curve = c.curve; work = take n c.work }
 
-  module _ (e : isSelected c ≡ true) (n : ℕ) (taken : n ≡ workTaken c.outline c.count) where
-    pub part-inside : n ≤ length c.work
-    part-inside = omega (arith, (selected-solvable e).work-long)
+  module _ (e : is_selected c ≡ true) (n : ℕ) (taken : n ≡ work_taken c.outline c.count) where
+    pub part_inside : n ≤ length c.work
+    part_inside = omega (arith, (selected_solvable e).work_long)
 
-    pub part-long : length (take n c.work) ≡ n
-    part-long = length-take-le n c.work part-inside
+    pub part_long : length (take n c.work) ≡ n
+    part_long = length-take-le n c.work part_inside
 
-    pub part-solvable : Solvable (withWork n)
-    part-solvable =
-        let s = selected-solvable e in
+    pub part_solvable : Solvable (with_work n)
+    part_solvable =
+        let s = selected_solvable e in
         record {
           formed = s.formed;
           low = s.low;
-          locked-fit = s.locked-fit;
-          marks-long = s.marks-long;
-          curve-long = s.curve-long;
-          work-long = omega (arith, part-long);
+          locked_fit = s.locked_fit;
+          marks_long = s.marks_long;
+          curve_long = s.curve_long;
+          work_long = omega (arith, part_long);
         }
 
     -- a selection
-    pub solved-answered : {answer : Answer} {marks curve work : List ℕ} → Solved (withWork n) answer marks curve work
+    pub solved_answered : {answer : Answer} {marks curve work : List ℕ} → Solved (with_work n) answer marks curve work
         → Answered c (told answer) marks curve (work ++ drop n c.work)
-    unfolding reply figures marksAfter curveAfter workAfter curveOf over
-    solved-answered s = record {
-      told-reply = rw e s.told-granted;
-      marks-written = rw e s.marks-written;
-      curve-written = rw e s.curve-written;
-      work-cleared = rw (e, s.work-cleared, part-long, ← taken, length-replicate);
+    unfolding reply figures marks_after curve_after work_after curve_of over
+    solved_answered s = record {
+      told_reply = rw e s.told_granted;
+      marks_written = rw e s.marks_written;
+      curve_written = rw e s.curve_written;
+      work_cleared = rw (e, s.work_cleared, part_long, ← taken, length-replicate);
     }
 
   -- a refusal
-  pub refused-answered : (e : Refusal) → refusal e ≡ judged c → Answered c (told (Answer.Refused e)) c.marks c.curve c.work
-  unfolding reply marksAfter curveAfter workAfter
-  refused-answered e h =
-      let number : isSelected c ≡ false = rw (← h) (refusal-not-zero e) in
+  pub refused_answered : (e : Refusal) → refusal e ≡ judged c → Answered c (told (Answer.Refused e)) c.marks c.curve c.work
+  unfolding reply marks_after curve_after work_after
+  refused_answered e h =
+      let number : is_selected c ≡ false = rw (← h) (refusal_not_zero e) in
       record {
-        told-reply = rw (number, h);
-        marks-written = rw number;
-        curve-written = rw number;
-        work-cleared = rw number;
+        told_reply = rw (number, h);
+        marks_written = rw number;
+        curve_written = rw number;
+        work_cleared = rw number;
       }

@@ -4,27 +4,27 @@ use mathlib.Core.Bool.{◌&&◌, not}
 use native.Mathlib.Omega.{arith}
 use lib.Dec.{eqb, ltb}
 use Rattle.refusals.specs.Refusals.{row}
-use Rattle.refusals.proofs.Placed.{Placed, row-placed, then-placed}
-use Rattle.refusals.proofs.Replies.{told-place}
-use Rattle.outline.specs.Answer.{sizeRows, recordRows}
-use Rattle.outline.proofs.Placed.{sizes-placed, records-placed}
-use Rattle.diversity.specs.Search.{noneFits}
-use Rattle.choice.specs.Answer.{Call, mostCount, tooShort, judged, reply}
-use Rattle.outline.specs.Rules.{mostRecords}
+use Rattle.refusals.proofs.Placed.{Placed, row_placed, then_placed}
+use Rattle.refusals.proofs.Replies.{told_place}
+use Rattle.outline.specs.Answer.{size_rows, record_rows}
+use Rattle.outline.proofs.Placed.{sizes_placed, records_placed}
+use Rattle.diversity.specs.Search.{none_fits}
+use Rattle.choice.specs.Answer.{Call, most_count, too_short, judged, reply}
+use Rattle.outline.specs.Rules.{most_records}
 
 module _ (c : Call) where
-  pub judged-placed : Placed mostRecords (judged c)
+  pub judged_placed : Placed most_records (judged c)
   unfolding judged
-  judged-placed =
+  judged_placed =
       let unknown = not (eqb c.way 0) && not (eqb c.way 1) in
-      let large = ltb mostCount c.count in
-      then-placed mostRecords (row 1 unknown) _ (row-placed mostRecords 1 unknown (omega arith))
-      (λ _. then-placed mostRecords (sizeRows c.outline) _ (sizes-placed c.outline)
-      (λ sized. then-placed mostRecords (row 4 large) _ (row-placed mostRecords 4 large (omega arith))
-      (λ _. then-placed mostRecords (recordRows c.outline) _ (records-placed c.outline sized)
-      (λ _. then-placed mostRecords (row 9 (tooShort c)) _ (row-placed mostRecords 9 (tooShort c) (omega arith))
-      (λ _. row-placed mostRecords 12 (noneFits c.outline c.way c.count) (omega arith))))))
+      let large = ltb most_count c.count in
+      then_placed most_records (row 1 unknown) _ (row_placed most_records 1 unknown (omega arith))
+      (λ _. then_placed most_records (size_rows c.outline) _ (sizes_placed c.outline)
+      (λ sized. then_placed most_records (row 4 large) _ (row_placed most_records 4 large (omega arith))
+      (λ _. then_placed most_records (record_rows c.outline) _ (records_placed c.outline sized)
+      (λ _. then_placed most_records (row 9 (too_short c)) _ (row_placed most_records 9 (too_short c) (omega arith))
+      (λ _. row_placed most_records 12 (none_fits c.outline c.way c.count) (omega arith))))))
 
-  pub reply-place-most : (reply c).place ≤ mostRecords
+  pub reply_place_most : (reply c).place ≤ most_records
   unfolding reply
-  reply-place-most = told-place _ _ _ judged-placed.place-most
+  reply_place_most = told_place _ _ _ judged_placed.place_most

@@ -11,171 +11,171 @@ use borrow.Author.Tests.{eq-eqb, ne_eqb, leb-true, leb-false}
 use Rattle.lists.specs.Lists.{over}
 use Rattle.refusals.specs.Reply.{Reply, granted}
 use Rattle.refusals.specs.Table.{Gives}
-use Rattle.refusals.proofs.Replies.{told-passed, decided, granted-apart, refused-determined}
-use Rattle.refusals.proofs.Tests.{Decides, decides-less, decides-either}
-use Rattle.refusals.proofs.Tables.{gives-then, gives-whole, gives-way}
-use Rattle.outline.specs.Outline.{size, isTaxon, locked}
-use Rattle.outline.proofs.Demands.{sizes-give, records-give}
+use Rattle.refusals.proofs.Replies.{told_passed, decided, granted_apart, refused_determined}
+use Rattle.refusals.proofs.Tests.{Decides, decides_less, decides_either}
+use Rattle.refusals.proofs.Tables.{gives_then, gives_whole, gives_way}
+use Rattle.outline.specs.Outline.{size, is_taxon, locked}
+use Rattle.outline.proofs.Demands.{sizes_give, records_give}
 use Rattle.diversity.specs.Diversity.{chosen, cost}
 use Rattle.diversity.specs.Behind.{NoneFits}
-use Rattle.diversity.specs.Headings.{pricesChosen, headingsOpened, Free}
-use Rattle.diversity.specs.Search.{optimum, noneFits, bestDiversity, leastCost}
+use Rattle.diversity.specs.Headings.{prices_chosen, headings_opened, Free}
+use Rattle.diversity.specs.Search.{optimum, none_fits, best_diversity, least_cost}
 use Rattle.diversity.specs.Paths.{SubtreeLength, Ends}
-use Rattle.laws.specs.Locks.{lockedSet}
-use Rattle.laws.proofs.Locks.{held-each, none-fits}
-use Rattle.laws.proofs.Optimum.{none-exactly, search-ends, optimum-set, optimum-fits, others-behind, greatest-diversity, least-cost}
-use Rattle.laws.proofs.Optimum.{shown-diversity, shown-cost, blank-diversity, blank-cost}
-use Rattle.laws.proofs.Spare.{spare-left}
-use Rattle.laws.proofs.Subtrees.{diversity-subtree}
-use Rattle.laws.proofs.Headings.{cost-opened}
-use Rattle.laws.proofs.Free.{free-chosen}
-use Rattle.choice.specs.Answer.{Call, Figures, Answered, numbersOf, told, mostCount, tooShort, judged, isSelected}
-use Rattle.choice.specs.Answer.{bestSet, figures, reply, curveOf, diversityAt, costAt, marksAfter, curveAfter, workAfter}
-use Rattle.choice.specs.Demands.{chooseTable, SelectedOrRefused, markedSet, TrueOfMarks, Shown, some-set, no-set, TrueColumn, FoundBySearch}
+use Rattle.laws.specs.Locks.{locked_set}
+use Rattle.laws.proofs.Locks.{held_each, none_fits_lem}
+use Rattle.laws.proofs.Optimum.{none_exactly, search_ends, optimum_set, optimum_fits, others_behind, greatest_diversity, least_cost_lem}
+use Rattle.laws.proofs.Optimum.{shown_diversity, shown_cost, blank_diversity, blank_cost_lem}
+use Rattle.laws.proofs.Spare.{spare_left}
+use Rattle.laws.proofs.Subtrees.{diversity_subtree}
+use Rattle.laws.proofs.Headings.{cost_opened}
+use Rattle.laws.proofs.Free.{free_chosen}
+use Rattle.choice.specs.Answer.{Call, Figures, Answered, numbers_of, told, most_count, too_short, judged, is_selected}
+use Rattle.choice.specs.Answer.{best_set, figures, reply, curve_of, diversity_at, cost_at, marks_after, curve_after, work_after}
+use Rattle.choice.specs.Demands.{choose_table, SelectedOrRefused, marked_set, TrueOfMarks, Shown, some_set, no_set, TrueColumn, FoundBySearch}
 use Rattle.choice.specs.declared.answer.Answer.{Answer}
-use Rattle.choice.proofs.Answers.{way-known, selected-solvable}
-use Rattle.choice.proofs.Solving.{curve-diversity, curve-cost}
+use Rattle.choice.proofs.Answers.{way_known, selected_solvable}
+use Rattle.choice.proofs.Solving.{curve_diversity, curve_cost}
 
 -- ---- what the numbers say of the answer itself
 -- a selection tells 0, and its numbers are the answer's; a refusal tells its own number and place
-pub told-determined : (a b : Answer) → told a ≡ told b → a ≡ b
-told-determined (Answer.Selected d k t s) (Answer.Selected e l u v) h =
+pub told_determined : (a b : Answer) → told a ≡ told b → a ≡ b
+told_determined (Answer.Selected d k t s) (Answer.Selected e l u v) h =
     let f : (told (Answer.Selected d k t s)).figures ≡ (told (Answer.Selected e l u v)).figures = ap (λ (r : Reply Figures). r.figures) h in
     let x : d ≡ e = ap (λ (g : Figures). g.diversity) f in
     let y : k ≡ l = ap (λ (g : Figures). g.cost) f in
     let z : t ≡ u = ap (λ (g : Figures). g.taxa) f in
     let w : s ≡ v = ap (λ (g : Figures). g.spare) f in
     rw (x, y, z, w)
-told-determined (Answer.Selected d k t s) (Answer.Refused e) h = absurd (granted-apart e h)
-told-determined (Answer.Refused d) (Answer.Selected e l u v) h = absurd (granted-apart d (sym h))
-told-determined (Answer.Refused d) (Answer.Refused e) h = ap Answer.Refused (refused-determined d e h)
+told_determined (Answer.Selected d k t s) (Answer.Refused e) h = absurd (granted_apart e h)
+told_determined (Answer.Refused d) (Answer.Selected e l u v) h = absurd (granted_apart d (sym h))
+told_determined (Answer.Refused d) (Answer.Refused e) h = ap Answer.Refused (refused_determined d e h)
 
 -- the search ends with nothing in hand exactly if no set fits
-pub none-decided : (o : List ℕ) (way b : ℕ) → Decides (NoneFits o b) (noneFits o way b)
-none-decided o way b = rw (none-exactly o way b) (Iff.trans (decides-less b (cost o (lockedSet o))) (none-fits o b))
+pub none_decided : (o : List ℕ) (way b : ℕ) → Decides (NoneFits o b) (none_fits o way b)
+none_decided o way b = rw (none_exactly o way b) (Iff.trans (decides_less b (cost o (locked_set o))) (none_fits_lem o b))
 
 module _ (c : Call) where
   -- what a call is judged is what its table gives
-  judged-gives : Gives (chooseTable c) (judged c)
-  unfolding judged tooShort
-  judged-gives =
-      gives-then (gives-way c.way)
-      (gives-then (sizes-give c.outline)
-      (gives-then (gives-whole 3 (decides-less mostCount c.count))
-      (gives-then (records-give c.outline)
-      (gives-then (gives-whole 8 (decides-either (decides-less _ _) (decides-either (decides-less _ _) (decides-less _ _))))
-      (gives-whole 11 (none-decided c.outline c.way c.count))))))
+  judged_gives : Gives (choose_table c) (judged c)
+  unfolding judged too_short
+  judged_gives =
+      gives_then (gives_way c.way)
+      (gives_then (sizes_give c.outline)
+      (gives_then (gives_whole 3 (decides_less most_count c.count))
+      (gives_then (records_give c.outline)
+      (gives_then (gives_whole 8 (decides_either (decides_less _ _) (decides_either (decides_less _ _) (decides_less _ _))))
+      (gives_whole 11 (none_decided c.outline c.way c.count))))))
 
 module _ (c : Call) {r : Reply Figures} {marks curve work : List ℕ} (x : Answered c r marks curve work) where
   -- demand 1: a selection or exactly one refusal of the table, under its condition only; a refusal changes no byte of a buffer
-  pub demand-1 : SelectedOrRefused c r marks curve work
-  unfolding reply marksAfter curveAfter workAfter
-  demand-1 =
-      decided _ _ _ numbersOf refl (judged-gives c) x.told-reply
+  pub demand_1 : SelectedOrRefused c r marks curve work
+  unfolding reply marks_after curve_after work_after
+  demand_1 =
+      decided _ _ _ numbers_of refl (judged_gives c) x.told_reply
       (λ h.
-      let off : isSelected c ≡ false = ne_eqb (judged c).number 0 (λ z. omega arith) in
-      rw (x.marks-written, x.curve-written, x.work-cleared, off))
+      let off : is_selected c ≡ false = ne_eqb (judged c).number 0 (λ z. omega arith) in
+      rw (x.marks_written, x.curve_written, x.work_cleared, off))
 
   -- where the number told is 0, it is a selection
   module _ (z : r.number ≡ 0) where
-    pub selected-row : isSelected c ≡ true
+    pub selected_row : is_selected c ≡ true
     unfolding reply
-    selected-row = eq-eqb _ _ (told-passed _ _ _ (sym (ap (λ (r : Reply Figures). r.number) x.told-reply) ∙ z))
+    selected_row = eq-eqb _ _ (told_passed _ _ _ (sym (ap (λ (r : Reply Figures). r.number) x.told_reply) ∙ z))
 
-    told-is : r ≡ granted (figures c)
+    told_is : r ≡ granted (figures c)
     unfolding reply
-    told-is = x.told-reply ∙ rw selected-row
+    told_is = x.told_reply ∙ rw selected_row
 
     -- the locked taxa fit by themselves
-    fit : cost c.outline (lockedSet c.outline) ≤ c.count
-    fit = (selected-solvable c selected-row).locked-fit
+    fit : cost c.outline (locked_set c.outline) ≤ c.count
+    fit = (selected_solvable c selected_row).locked_fit
 
-    marked-is : markedSet c marks ≡ bestSet c
-    unfolding marksAfter over
-    marked-is = rw (x.marks-written, selected-row) (take_at (bestSet c) _ (size c.outline) (optimum-set c.outline c.way c.count fit).whole)
+    marked_is : marked_set c marks ≡ best_set c
+    unfolding marks_after over
+    marked_is = rw (x.marks_written, selected_row) (take_at (best_set c) _ (size c.outline) (optimum_set c.outline c.way c.count fit).whole)
 
-    curve-is : curve ≡ over (curveOf c) c.curve
-    unfolding curveAfter
-    curve-is = x.curve-written ∙ rw selected-row
+    curve_is : curve ≡ over (curve_of c) c.curve
+    unfolding curve_after
+    curve_is = x.curve_written ∙ rw selected_row
 
     -- demand 2: the numbers told are those of the marked set
-    pub demand-2 : TrueOfMarks c r marks
+    pub demand_2 : TrueOfMarks c r marks
     unfolding figures
-    demand-2 = record {
-      way-known = way-known c selected-row;
-      diversity-true = rw (told-is, marked-is);
-      cost-true = rw (told-is, marked-is);
-      taxa-true = rw (told-is, marked-is);
+    demand_2 = record {
+      way_known = way_known c selected_row;
+      diversity_true = rw (told_is, marked_is);
+      cost_true = rw (told_is, marked_is);
+      taxa_true = rw (told_is, marked_is);
     }
 
     -- and in the paper's words: the length of the smallest subtree that connects the marked taxa, rooted with the root
-    pub demand-2-subtree : SubtreeLength c.outline (Ends c.outline c.way (markedSet c marks)) r.figures.diversity
-    demand-2-subtree = rw demand-2.diversity-true (diversity-subtree _ (selected-solvable c selected-row).formed.linked _ _)
+    pub demand_2_subtree : SubtreeLength c.outline (Ends c.outline c.way (marked_set c marks)) r.figures.diversity
+    demand_2_subtree = rw demand_2.diversity_true (diversity_subtree _ (selected_solvable c selected_row).formed.linked _ _)
 
     -- and in the request's words: the marked taxa's prices, and the price of each group that has one of them below it
-    pub demand-2-headings : r.figures.cost ≡ pricesChosen c.outline (markedSet c marks) + headingsOpened c.outline (markedSet c marks)
-    demand-2-headings = demand-2.cost-true ∙ rw marked-is (cost-opened _ _ (optimum-set c.outline c.way c.count fit))
+    pub demand_2_headings : r.figures.cost ≡ prices_chosen c.outline (marked_set c marks) + headings_opened c.outline (marked_set c marks)
+    demand_2_headings = demand_2.cost_true ∙ rw marked_is (cost_opened _ _ (optimum_set c.outline c.way c.count fit))
 
-    column-diversity : (b : ℕ) → b ≤ c.count → diversityAt curve b ≡ bestDiversity c.outline c.way b
-    column-diversity b h = rw curve-is (curve-diversity c c.curve b h)
+    column_diversity : (b : ℕ) → b ≤ c.count → diversity_at curve b ≡ best_diversity c.outline c.way b
+    column_diversity b h = rw curve_is (curve_diversity c c.curve b h)
 
-    column-cost : (b : ℕ) → b ≤ c.count → costAt curve b ≡ leastCost c.outline c.way b
-    column-cost b h = rw curve-is (curve-cost c c.curve b h)
+    column_cost : (b : ℕ) → b ≤ c.count → cost_at curve b ≡ least_cost c.outline c.way b
+    column_cost b h = rw curve_is (curve_cost c c.curve b h)
 
-    column-shown : (b : ℕ) → b ≤ c.count → Shown c curve b
-    column-shown b h = go (leb (cost o (lockedSet o)) b) refl
+    column_shown : (b : ℕ) → b ≤ c.count → Shown c curve b
+    column_shown b h = go (leb (cost o (locked_set o)) b) refl
       where
         o : List ℕ
         o = c.outline
 
-        go : (t : Bool) → leb (cost o (lockedSet o)) b ≡ t → Shown c curve b
+        go : (t : Bool) → leb (cost o (locked_set o)) b ≡ t → Shown c curve b
         go true e =
             let f = leb-true _ _ e in
-            some-set (optimum o c.way b) (optimum-set o c.way b f) (optimum-fits o c.way b f)
-            (sym (column-diversity b h ∙ shown-diversity o c.way b f)) (sym (column-cost b h ∙ shown-cost o c.way b f))
+            some_set (optimum o c.way b) (optimum_set o c.way b f) (optimum_fits o c.way b f)
+            (sym (column_diversity b h ∙ shown_diversity o c.way b f)) (sym (column_cost b h ∙ shown_cost o c.way b f))
         go false e =
             let short = leb-false _ _ e in
-            no-set ((none-fits o b).0 short) (column-diversity b h ∙ blank-diversity o c.way b short) (column-cost b h ∙ blank-cost o c.way b short)
+            no_set ((none_fits_lem o b).0 short) (column_diversity b h ∙ blank_diversity o c.way b short) (column_cost b h ∙ blank_cost_lem o c.way b short)
 
-    true-column : (b : ℕ) → b ≤ c.count → TrueColumn c curve b
-    true-column b h =
+    true_column : (b : ℕ) → b ≤ c.count → TrueColumn c curve b
+    true_column b h =
         let o = c.outline in
-        let d = column-diversity b h in
-        let k = column-cost b h in
+        let d = column_diversity b h in
+        let k = column_cost b h in
         record {
           searched = (d, k);
-          shown = column-shown b h;
-          greatest = λ t x f. rw d (greatest-diversity o c.way b t x f);
-          least = λ t x f same. rw k (least-cost o c.way b t x f (same ∙ d));
+          shown = column_shown b h;
+          greatest = λ t x f. rw d (greatest_diversity o c.way b t x f);
+          least = λ t x f same. rw k (least_cost_lem o c.way b t x f (same ∙ d));
         }
 
     -- demand 3: exactly what the exhaustive search finds
-    pub demand-3 : FoundBySearch c r marks curve
+    pub demand_3 : FoundBySearch c r marks curve
     unfolding figures
-    demand-3 =
+    demand_3 =
         let o = c.outline in
         let n = c.count in
         record {
-          columns = true-column;
-          marked = rw marked-is (search-ends o c.way n fit);
-          marked-set = rw marked-is (optimum-set o c.way n fit);
-          marked-fits = rw marked-is (optimum-fits o c.way n fit);
-          told-marked = demand-2;
-          diversity-shown = rw told-is (sym (column-diversity n (omega arith) ∙ shown-diversity o c.way n fit));
-          cost-shown = rw told-is (sym (column-cost n (omega arith) ∙ shown-cost o c.way n fit));
-          others = λ t x f d. rw marked-is (others-behind o c.way n t x f (λ e. d (e ∙ sym marked-is)));
+          columns = true_column;
+          marked = rw marked_is (search_ends o c.way n fit);
+          marked_is_set = rw marked_is (optimum_set o c.way n fit);
+          marked_fits = rw marked_is (optimum_fits o c.way n fit);
+          told_marked = demand_2;
+          diversity_is_shown = rw told_is (sym (column_diversity n (omega arith) ∙ shown_diversity o c.way n fit));
+          cost_is_shown = rw told_is (sym (column_cost n (omega arith) ∙ shown_cost o c.way n fit));
+          others = λ t x f d. rw marked_is (others_behind o c.way n t x f (λ e. d (e ∙ sym marked_is)));
         }
 
     -- every locked taxon is marked
-    pub locked-marked : (r : ℕ) → 1 ≤ r → r ≤ size c.outline → locked c.outline r ≡ true → chosen (markedSet c marks) r ≡ true
-    locked-marked = (held-each c.outline (markedSet c marks)).0 demand-3.marked-fits.locked-held
+    pub locked_marked : (r : ℕ) → 1 ≤ r → r ≤ size c.outline → locked c.outline r ≡ true → chosen (marked_set c marks) r ≡ true
+    locked_marked = (held_each c.outline (marked_set c marks)).0 demand_3.marked_fits.locked_held
 
     -- the spare is the page count minus the cost
-    pub spare-is-left : r.figures.spare ≡ c.count - r.figures.cost
+    pub spare_is_left : r.figures.spare ≡ c.count - r.figures.cost
     unfolding figures
-    spare-is-left = rw (told-is, ← shown-cost c.outline c.way c.count fit) (spare-left c.outline c.way c.count fit)
+    spare_is_left = rw (told_is, ← shown_cost c.outline c.way c.count fit) (spare_left c.outline c.way c.count fit)
 
     -- a free taxon is always marked where the headings above it are free too
-    pub free-marked : (r : ℕ) → 1 ≤ r → r ≤ size c.outline → isTaxon c.outline r ≡ true → Free c.outline r
-        → chosen (markedSet c marks) r ≡ true
-    free-marked r l u t e = rw marked-is (free-chosen c.outline c.way c.count fit r l u t e)
+    pub free_marked : (r : ℕ) → 1 ≤ r → r ≤ size c.outline → is_taxon c.outline r ≡ true → Free c.outline r
+        → chosen (marked_set c marks) r ≡ true
+    free_marked r l u t e = rw marked_is (free_chosen c.outline c.way c.count fit r l u t e)

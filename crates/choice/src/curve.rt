@@ -1,10 +1,10 @@
 // The curve: for each column the best diversity, then its cost; and the spare, read from it.
 ghost use Rattle.std.specs.Prelude.{◌≡◌, ◌*◌, ◌<◌, length};
 ghost use Rattle.lists.specs.Lists.{from, over};
-ghost use Rattle.diversity.specs.Search.{columnsAlike};
-ghost use Rattle.choice.specs.Answer.{columns, diversityAt};
+ghost use Rattle.diversity.specs.Search.{columns_alike};
+ghost use Rattle.choice.specs.Answer.{columns, diversity_at};
 ghost use Rattle.cells.specs.Cells.{view};
-ghost use Rattle.choice.specs.Inner.{ColumnOf, topDiversity, topCost, Drawable, level};
+ghost use Rattle.choice.specs.Inner.{ColumnOf, top_diversity, top_cost, Drawable, level};
 
 use cells::candidate::Candidate;
 use table::best_at;
@@ -39,7 +39,7 @@ fn column_of(best: Candidate, locks: u64) -> Column
 pub fn write_curve(work: &[u64], width: usize, locks: u64, curve: &mut [u32])
     requires { Drawable work.now width curve.old }
     ensures { curve.new
-        ≡ over (columns (topDiversity work.now width locks) (topCost work.now width locks) (from 0 width))
+        ≡ over (columns (top_diversity work.now width locks) (top_cost work.now width locks) (from 0 width))
         curve.old }
 {
     let mut b = 0;
@@ -55,7 +55,7 @@ pub fn write_curve(work: &[u64], width: usize, locks: u64, curve: &mut [u32])
 // set fits.
 pub fn spare_of(curve: &[u32], count: usize) -> usize
     requires { 2 * count < length curve.now }
-    ensures { result ≡ columnsAlike (level curve.now (diversityAt curve.now count)) count }
+    ensures { result ≡ columns_alike (level curve.now (diversity_at curve.now count)) count }
 {
     let diversity = curve[2 * count];
     let mut b = count;

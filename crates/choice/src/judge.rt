@@ -1,7 +1,7 @@
 // The table of refusals, whole: rows 1 to 9 in their order, and row 12.
 ghost use Rattle.std.specs.Prelude.{◌≡◌};
 ghost use Rattle.refusals.specs.Refusals.{told};
-ghost use Rattle.choice.specs.Answer.{call, workTaken, judged};
+ghost use Rattle.choice.specs.Answer.{call, work_taken, judged};
 ghost use Rattle.choice.specs.Inner.{WithinLimits};
 
 use measures::locked_cost;
@@ -13,7 +13,7 @@ pub const MOST_COUNT: u32 = 4096;
 // How many numbers of work an outline takes at a page count.
 pub fn work_taken(outline: &[u8], count: u32) -> usize
     requires { WithinLimits outline.now count }
-    ensures { result ≡ workTaken outline.now count }
+    ensures { result ≡ work_taken outline.now count }
 {
     4 * ((outline.len() / 16 + 2) * (count as usize + 1))
 }

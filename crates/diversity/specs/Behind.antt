@@ -1,12 +1,12 @@
 -- The words of demand 3's last sentence: every other set that fits shows less diversity, or as much for more quarters, or equals
 -- the best set in both and lacks the first taxon, by record number, on which the two differ.
 use Rattle.std.specs.Prelude.{ℕ, ◌-◌, ◌≤◌, ◌<◌, ◌≡◌, ◌⊎◌, true, false, List, length, get_or}
-use Rattle.outline.specs.Outline.{size, isTaxon}
-use Rattle.diversity.specs.Diversity.{chosen, diversity, cost, holdsLocked}
+use Rattle.outline.specs.Outline.{size, is_taxon}
+use Rattle.diversity.specs.Diversity.{chosen, diversity, cost, holds_locked}
 
 -- mark a may stand at record r: 0, or 1 at a taxon
 abbrev pub MarkAt : List ℕ → ℕ → ℕ → Type 0
-MarkAt o r a = (a ≡ 0) ⊎ ((a ≡ 1) × (isTaxon o r ≡ true))
+MarkAt o r a = (a ≡ 0) ⊎ ((a ≡ 1) × (is_taxon o r ≡ true))
 
 -- s is a set of taxa
 pub record IsSet (o s : List ℕ) : Type 0 where
@@ -15,8 +15,8 @@ pub record IsSet (o s : List ℕ) : Type 0 where
 
 -- a set fits page count b if its cost is at most b and it holds every locked taxon
 pub record Fits (o : List ℕ) (b : ℕ) (s : List ℕ) : Type 0 where
-  pub cost-most : cost o s ≤ b
-  pub locked-held : holdsLocked o s ≡ true
+  pub cost_most : cost o s ≤ b
+  pub locked_held : holds_locked o s ≡ true
 
 -- no set of taxa fits page count b
 abbrev pub NoneFits : List ℕ → ℕ → Type 0
@@ -32,6 +32,6 @@ pub record Lacks (s t : List ℕ) : Type 0 where
 
 -- t is behind s
 pub data Behind (o : List ℕ) (way : ℕ) (s t : List ℕ) : Type 0 where
-  less-diversity : diversity o way t < diversity o way s → Behind o way s t
-  more-cost : diversity o way t ≡ diversity o way s → cost o s < cost o t → Behind o way s t
-  lacks-first : diversity o way t ≡ diversity o way s → cost o t ≡ cost o s → Lacks s t → Behind o way s t
+  less_diversity : diversity o way t < diversity o way s → Behind o way s t
+  more_cost : diversity o way t ≡ diversity o way s → cost o s < cost o t → Behind o way s t
+  lacks_first : diversity o way t ≡ diversity o way s → cost o t ≡ cost o s → Lacks s t → Behind o way s t

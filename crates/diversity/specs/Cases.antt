@@ -2,8 +2,8 @@
 use Rattle.std.specs.Prelude.{ℕ, List, map}
 use Rattle.refusals.specs.Refusals.{Ruling, passed}
 use Rattle.outline.specs.Answer.{checked}
-use Rattle.diversity.specs.Diversity.{diversity, cost, chosenTaxa}
-use Rattle.diversity.specs.Search.{optimum, bestDiversity, leastCost, spare}
+use Rattle.diversity.specs.Diversity.{diversity, cost, chosen_taxa}
+use Rattle.diversity.specs.Search.{optimum, best_diversity, least_cost, spare}
 
 -- what choosing gives: what the check tells of the outline, the marks, and the four numbers
 pub record Choice : Type 0 where
@@ -39,9 +39,9 @@ computed c =
       gives = record {
         check = checked o;
         marks = best;
-        diversity = bestDiversity o c.way c.count;
-        cost = leastCost o c.way c.count;
-        taxa = chosenTaxa o best;
+        diversity = best_diversity o c.way c.count;
+        cost = least_cost o c.way c.count;
+        taxa = chosen_taxa o best;
         spare = spare o c.way c.count;
       };
       rivals = map (λ (v : Rival). record { marks = v.marks; diversity = diversity o c.way v.marks; cost = cost o v.marks }) c.rivals;

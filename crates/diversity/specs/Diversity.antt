@@ -43,9 +43,9 @@ unfoldable pub cost : List ℕ → List ℕ → ℕ
 cost o s = total (λ r. if within o s r then price o r else 0) (records o)
 
 -- every locked taxon is chosen
-unfoldable pub holdsLocked : List ℕ → List ℕ → Bool
-holdsLocked o s = not (anywhere (λ r. locked o r && not (chosen s r)) (records o))
+unfoldable pub holds_locked : List ℕ → List ℕ → Bool
+holds_locked o s = not (anywhere (λ r. locked o r && not (chosen s r)) (records o))
 
 -- the number of taxa is the number marked
-unfoldable pub chosenTaxa : List ℕ → List ℕ → ℕ
-chosenTaxa o s = total (λ r. one (chosen s r)) (records o)
+unfoldable pub chosen_taxa : List ℕ → List ℕ → ℕ
+chosen_taxa o s = total (λ r. one (chosen s r)) (records o)

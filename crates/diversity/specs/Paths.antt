@@ -7,9 +7,9 @@ use Rattle.diversity.specs.Diversity.{chosen}
 
 -- p is the parent of q: q is p's first member, or the next after a member of p; 0 is the upper end of record 1's own branch
 pub data Parent (o : List ℕ) : ℕ → ℕ → Type 0 where
-  of-root : Parent o 0 1
-  of-first : {p : ℕ} → IsRecord o p → 1 ≤ first o p → Parent o p (first o p)
-  of-next : {p q : ℕ} → Parent o p q → 1 ≤ next o q → Parent o p (next o q)
+  of_root : Parent o 0 1
+  of_first : {p : ℕ} → IsRecord o p → 1 ≤ first o p → Parent o p (first o p)
+  of_next : {p q : ℕ} → Parent o p q → 1 ≤ next o q → Parent o p (next o q)
 
 -- r is on the way up from t: it is t, or the parent of a record on that way
 pub data OnWay (o : List ℕ) (t : ℕ) : ℕ → Type 0 where

@@ -9,40 +9,40 @@ use Rattle.outline.specs.Outline.{size, records, next, first}
 use Rattle.outline.specs.WellFormed.{Linked}
 use Rattle.diversity.specs.Diversity.{chain, clade}
 use Rattle.laws.specs.Forest.{tree}
-use Rattle.laws.proofs.Forest.{listed, total-listed, chain-listed, tree-step, sum-all}
-use Rattle.laws.proofs.Marks.{from-length}
+use Rattle.laws.proofs.Forest.{listed, total_listed, chain_listed, tree_step, sum_all}
+use Rattle.laws.proofs.Marks.{from_length}
 
 -- no link begins no chain
-pub chain-none : (k : ℕ) (o : List ℕ) → chain k o 0 ≡ []
+pub chain_none : (k : ℕ) (o : List ℕ) → chain k o 0 ≡ []
 unfolding chain
-chain-none zero o = refl
-chain-none (suc k) o = refl
+chain_none zero o = refl
+chain_none (suc k) o = refl
 
-length-total : (xs : List ℕ) → length xs ≡ total (λ x. 1) xs
+length_total : (xs : List ℕ) → length xs ≡ total (λ x. 1) xs
 unfolding total
-length-total [] = refl
-length-total (x ∷ xs) = omega (arith, length-total xs)
+length_total [] = refl
+length_total (x ∷ xs) = omega (arith, length_total xs)
 
 module _ (o : List ℕ) (linked : Linked o) where
   -- a record, all below it, and the rest of its chain
-  pub chain-step : (r : ℕ) → 1 ≤ r → r ≤ size o → chain (size o) o r ≡ r ∷ (chain (size o) o (first o r) ++ chain (size o) o (next o r))
+  pub chain_step : (r : ℕ) → 1 ≤ r → r ≤ size o → chain (size o) o r ≡ r ∷ (chain (size o) o (first o r) ++ chain (size o) o (next o r))
   unfolding tree
-  chain-step r l u =
-      chain-listed (size o) o r ∙ ap listed (tree-step o linked r l u)
-      ∙ sym (ap₂ (λ (xs : List ℕ) (ys : List ℕ). r ∷ (xs ++ ys)) (chain-listed (size o) o (first o r)) (chain-listed (size o) o (next o r)))
+  chain_step r l u =
+      chain_listed (size o) o r ∙ ap listed (tree_step o linked r l u)
+      ∙ sym (ap₂ (λ (xs : List ℕ) (ys : List ℕ). r ∷ (xs ++ ys)) (chain_listed (size o) o (first o r)) (chain_listed (size o) o (next o r)))
 
   -- record 1 has no next
-  pub clade-root : clade o 1 ≡ chain (size o) o 1
+  pub clade_root : clade o 1 ≡ chain (size o) o 1
   unfolding clade
-  clade-root =
-      sym (chain-step 1 (omega arith) linked.filled ∙ rw (linked.root-alone, chain-none) (ap (λ xs. 1 ∷ xs) (append-nil (chain (size o) o (first o 1)))))
+  clade_root =
+      sym (chain_step 1 (omega arith) linked.filled ∙ rw (linked.root_alone, chain_none) (ap (λ xs. 1 ∷ xs) (append-nil (chain (size o) o (first o 1)))))
 
   -- a sum over its clade is one over all records
-  pub total-root : (w : ℕ → ℕ) → total w (clade o 1) ≡ total w (records o)
+  pub total_root : (w : ℕ → ℕ) → total w (clade o 1) ≡ total w (records o)
   unfolding tree
-  total-root w = ap (total w) (clade-root ∙ chain-listed (size o) o 1) ∙ total-listed w (tree o 1) ∙ sym (sum-all o linked (λ r f. w r))
+  total_root w = ap (total w) (clade_root ∙ chain_listed (size o) o 1) ∙ total_listed w (tree o 1) ∙ sym (sum_all o linked (λ r f. w r))
 
   -- so it has as many
-  pub clade-size : length (clade o 1) ≡ size o
+  pub clade_size : length (clade o 1) ≡ size o
   unfolding records
-  clade-size = length-total (clade o 1) ∙ total-root (λ r. 1) ∙ sym (length-total (from 1 (size o))) ∙ from-length 1 (size o)
+  clade_size = length_total (clade o 1) ∙ total_root (λ r. 1) ∙ sym (length_total (from 1 (size o))) ∙ from_length 1 (size o)

@@ -8,73 +8,73 @@ use native.Mathlib.Omega.{arith}
 use lib.Dec.{eqb}
 use borrow.Author.Tests.{eqb-true, eqb-false}
 use Rattle.lists.specs.Lists.{one, total}
-use Rattle.outline.specs.Outline.{size, next, first, records, isTaxon}
+use Rattle.outline.specs.Outline.{size, next, first, records, is_taxon}
 use Rattle.outline.specs.WellFormed.{Linked}
 use Rattle.diversity.specs.Diversity.{chain}
-use Rattle.laws.specs.Forest.{Forest, empty, node, sumIn, countIn, shape, tree}
-use Rattle.laws.proofs.Sums.{occurs, occurs-most, total-append, total-most}
-use Rattle.laws.proofs.Links.{Namer, by-next, by-first, namer, total-by-links}
+use Rattle.laws.specs.Forest.{Forest, empty, node, sum_in, count_in, shape, tree}
+use Rattle.laws.proofs.Sums.{occurs, occurs_most, total_append, total_most}
+use Rattle.laws.proofs.Links.{Namer, by_next, by_first, namer, total_by_links}
 
 -- the records of a forest
 abbrev pub listed : Forest → List ℕ
 listed empty = []
 listed (node r f n) = r ∷ (listed f ++ listed n)
 
-pub total-listed : (w : ℕ → ℕ) (F : Forest) → total w (listed F) ≡ sumIn (λ r f. w r) F
+pub total_listed : (w : ℕ → ℕ) (F : Forest) → total w (listed F) ≡ sum_in (λ r f. w r) F
 unfolding total
-total-listed w empty = refl
-total-listed w (node r f n) = omega (arith, total-append w (listed f) (listed n), total-listed w f, total-listed w n)
+total_listed w empty = refl
+total_listed w (node r f n) = omega (arith, total_append w (listed f) (listed n), total_listed w f, total_listed w n)
 
-pub chain-listed : (k : ℕ) (o : List ℕ) (r : ℕ) → chain k o r ≡ listed (shape k o r)
+pub chain_listed : (k : ℕ) (o : List ℕ) (r : ℕ) → chain k o r ≡ listed (shape k o r)
 unfolding chain shape
-chain-listed zero o r = refl
-chain-listed (suc k) o zero = refl
-chain-listed (suc k) o (suc r) = ap₂ (λ xs ys. suc r ∷ (xs ++ ys)) (chain-listed k o (first o (suc r))) (chain-listed k o (next o (suc r)))
+chain_listed zero o r = refl
+chain_listed (suc k) o zero = refl
+chain_listed (suc k) o (suc r) = ap₂ (λ xs ys. suc r ∷ (xs ++ ys)) (chain_listed k o (first o (suc r))) (chain_listed k o (next o (suc r)))
 
-shape-zero : (k : ℕ) (o : List ℕ) → shape k o 0 ≡ empty
+shape_zero : (k : ℕ) (o : List ℕ) → shape k o 0 ≡ empty
 unfolding shape
-shape-zero zero o = refl
-shape-zero (suc k) o = refl
+shape_zero zero o = refl
+shape_zero (suc k) o = refl
 
-pub tree-zero : (o : List ℕ) → tree o 0 ≡ empty
+pub tree_zero : (o : List ℕ) → tree o 0 ≡ empty
 unfolding tree
-tree-zero o = shape-zero (size o) o
+tree_zero o = shape_zero (size o) o
 
 module _ (o : List ℕ) (linked : Linked o) where
   -- links lead to later records, so that a depth of one for each record left is enough
-  shape-enough : (k r : ℕ) → r ≤ size o → (0 < r → size o < k + r) → shape (suc k) o r ≡ shape k o r
+  shape_enough : (k r : ℕ) → r ≤ size o → (0 < r → size o < k + r) → shape (suc k) o r ≡ shape k o r
   unfolding shape
-  shape-enough zero zero most enough = refl
-  shape-enough (suc k) zero most enough = refl
-  shape-enough zero (suc r) most enough = let e = enough (omega arith) in absurd (omega arith)
-  shape-enough (suc k) (suc r) most enough =
+  shape_enough zero zero most enough = refl
+  shape_enough (suc k) zero most enough = refl
+  shape_enough zero (suc r) most enough = let e = enough (omega arith) in absurd (omega arith)
+  shape_enough (suc k) (suc r) most enough =
       let e = enough (omega arith) in
-      let f = linked.first-later (suc r) (omega arith) most in
-      let n = linked.next-later (suc r) (omega arith) most in
+      let f = linked.first_later (suc r) (omega arith) most in
+      let n = linked.next_later (suc r) (omega arith) most in
       ap₂ (node (suc r))
-      (shape-enough k (first o (suc r)) f.most (λ p. let l = f.later p in omega arith))
-      (shape-enough k (next o (suc r)) n.most (λ p. let l = n.later p in omega arith))
+      (shape_enough k (first o (suc r)) f.most (λ p. let l = f.later p in omega arith))
+      (shape_enough k (next o (suc r)) n.most (λ p. let l = n.later p in omega arith))
 
-  pub tree-step : (r : ℕ) → 1 ≤ r → r ≤ size o → tree o r ≡ node r (tree o (first o r)) (tree o (next o r))
+  pub tree_step : (r : ℕ) → 1 ≤ r → r ≤ size o → tree o r ≡ node r (tree o (first o r)) (tree o (next o r))
   unfolding tree shape
-  tree-step zero l u = absurd (omega arith)
-  tree-step (suc r) l u = sym (shape-enough (size o) (suc r) u (λ p. omega arith))
+  tree_step zero l u = absurd (omega arith)
+  tree_step (suc r) l u = sym (shape_enough (size o) (suc r) u (λ p. omega arith))
 
   -- the members of record r, by whether it is a taxon
-  pub members-cases : {A : Type 0} (r : ℕ) → 1 ≤ r → r ≤ size o → (at : Forest → A) (taxon group : A)
-      → at empty ≡ taxon → ((q : ℕ) (g m : Forest) → at (node q g m) ≡ group) → at (tree o (first o r)) ≡ (if isTaxon o r then taxon else group)
-  members-cases r l u at taxon group e h = go (isTaxon o r) refl
+  pub members_cases : {A : Type 0} (r : ℕ) → 1 ≤ r → r ≤ size o → (at : Forest → A) (taxon group : A)
+      → at empty ≡ taxon → ((q : ℕ) (g m : Forest) → at (node q g m) ≡ group) → at (tree o (first o r)) ≡ (if is_taxon o r then taxon else group)
+  members_cases r l u at taxon group e h = go (is_taxon o r) refl
     where
-      go : (b : Bool) → isTaxon o r ≡ b → at (tree o (first o r)) ≡ (if b then taxon else group)
-      go true t = ap (λ q. at (tree o q)) (eqb-true (first o r) 0 t) ∙ ap at (tree-zero o) ∙ e
+      go : (b : Bool) → is_taxon o r ≡ b → at (tree o (first o r)) ≡ (if b then taxon else group)
+      go true t = ap (λ q. at (tree o q)) (eqb-true (first o r) 0 t) ∙ ap at (tree_zero o) ∙ e
       go false t =
           let d = eqb-false (first o r) 0 t in
-          ap at (tree-step (first o r) (omega arith) (linked.first-later r l u).most) ∙ h _ _ _
+          ap at (tree_step (first o r) (omega arith) (linked.first_later r l u).most) ∙ h _ _ _
 
   -- the sum over all records is the sum over the forest of record 1
-  pub sum-all : (w : ℕ → Forest → ℕ) → total (λ r. w r (tree o (first o r))) (records o) ≡ sumIn w (tree o 1)
-  sum-all w =
-      total-by-links o linked (λ r. sumIn w (tree o r)) (ap (sumIn w) (tree-zero o)) (λ r. w r (tree o (first o r))) (λ r l u. ap (sumIn w) (tree-step r l u))
+  pub sum_all : (w : ℕ → Forest → ℕ) → total (λ r. w r (tree o (first o r))) (records o) ≡ sum_in w (tree o 1)
+  sum_all w =
+      total_by_links o linked (λ r. sum_in w (tree o r)) (ap (sum_in w) (tree_zero o)) (λ r. w r (tree o (first o r))) (λ r l u. ap (sum_in w) (tree_step r l u))
 
   -- induction along the links: what record 1 has and each record hands on, every record q has; k is at least q
   pub reach : (P : ℕ → Type 0) → P 1 → ((r : ℕ) → 1 ≤ r → r ≤ size o → P r → P (first o r) × P (next o r))
@@ -85,31 +85,31 @@ module _ (o : List ℕ) (linked : Linked o) where
   reach P root down (suc k) (suc (suc q)) h l u = go (reach P root down k) (namer o linked (suc (suc q)) (omega arith) u)
     where
       go : ((r : ℕ) → r ≤ k → 1 ≤ r → r ≤ size o → P r) → Namer o (suc (suc q)) → P (suc (suc q))
-      go ih (by-first r lr ur e) = subst P e (down r lr (omega arith) (ih r (omega arith) lr (omega arith))).0
-      go ih (by-next r lr ur e) = subst P e (down r lr (omega arith) (ih r (omega arith) lr (omega arith))).1
+      go ih (by_first r lr ur e) = subst P e (down r lr (omega arith) (ih r (omega arith) lr (omega arith))).0
+      go ih (by_next r lr ur e) = subst P e (down r lr (omega arith) (ih r (omega arith) lr (omega arith))).1
 
   -- a sum over the forest of any record is a part of the sum over all records
-  pub sum-part : (w : ℕ → Forest → ℕ) (r : ℕ) → r ≤ size o → sumIn w (tree o r) ≤ total (λ q. w q (tree o (first o q))) (records o)
-  sum-part w zero u = omega (arith, ap (sumIn w) (tree-zero o))
-  sum-part w (suc r) u =
-      reach (λ q. sumIn w (tree o q) ≤ total (λ q. w q (tree o (first o q))) (records o)) (omega (arith, sum-all w))
-      (λ q l u h. let e = ap (sumIn w) (tree-step q l u) in (omega arith, omega arith)) (suc r) (suc r) (omega arith) (omega arith) u
+  pub sum_part : (w : ℕ → Forest → ℕ) (r : ℕ) → r ≤ size o → sum_in w (tree o r) ≤ total (λ q. w q (tree o (first o q))) (records o)
+  sum_part w zero u = omega (arith, ap (sum_in w) (tree_zero o))
+  sum_part w (suc r) u =
+      reach (λ q. sum_in w (tree o q) ≤ total (λ q. w q (tree o (first o q))) (records o)) (omega (arith, sum_all w))
+      (λ q l u h. let e = ap (sum_in w) (tree_step q l u) in (omega arith, omega arith)) (suc r) (suc r) (omega arith) (omega arith) u
 
   -- so it is at most as many times k as there are records, where no term is greater than k
-  pub sum-most : (w : ℕ → Forest → ℕ) (k r : ℕ) → r ≤ size o → ((q : ℕ) (f : Forest) → 1 ≤ q → q ≤ size o → w q f ≤ k)
-      → sumIn w (tree o r) ≤ size o * k
+  pub sum_most : (w : ℕ → Forest → ℕ) (k r : ℕ) → r ≤ size o → ((q : ℕ) (f : Forest) → 1 ≤ q → q ≤ size o → w q f ≤ k)
+      → sum_in w (tree o r) ≤ size o * k
   unfolding records
-  sum-most w k r u h =
-      omega (arith, sum-part w r u, total-most (λ q. w q (tree o (first o q))) k 1 (size o) (λ q l v. h q _ l (omega arith)))
+  sum_most w k r u h =
+      omega (arith, sum_part w r u, total_most (λ q. w q (tree o (first o q))) k 1 (size o) (λ q l v. h q _ l (omega arith)))
 
   -- the records of a forest are the outline's, each at most once
-  pub inside : (r : ℕ) → r ≤ size o → (t : ℕ) → countIn t (tree o r) ≤ occurs t (records o)
-  inside r u t = sum-part (λ q f. one (eqb t q)) r u
+  pub inside : (r : ℕ) → r ≤ size o → (t : ℕ) → count_in t (tree o r) ≤ occurs t (records o)
+  inside r u t = sum_part (λ q f. one (eqb t q)) r u
 
-  pub distinct : (r : ℕ) → r ≤ size o → (t : ℕ) → countIn t (tree o r) ≤ 1
+  pub distinct : (r : ℕ) → r ≤ size o → (t : ℕ) → count_in t (tree o r) ≤ 1
   unfolding records
-  distinct r u t = omega (arith, inside r u t, occurs-most t 1 (size o))
+  distinct r u t = omega (arith, inside r u t, occurs_most t 1 (size o))
 
   -- a record, what is below it and the rest of its chain have no record in common
-  pub disjoint : (r : ℕ) → 1 ≤ r → r ≤ size o → (t : ℕ) → one (eqb t r) + (countIn t (tree o (first o r)) + countIn t (tree o (next o r))) ≤ 1
-  disjoint r l u t = omega (arith, distinct r u t, ap (countIn t) (tree-step r l u))
+  pub disjoint : (r : ℕ) → 1 ≤ r → r ≤ size o → (t : ℕ) → one (eqb t r) + (count_in t (tree o (first o r)) + count_in t (tree o (next o r))) ≤ 1
+  disjoint r l u t = omega (arith, distinct r u t, ap (count_in t) (tree_step r l u))

@@ -9,59 +9,59 @@ use lib.Dec.{eqb}
 use Rattle.lists.specs.Lists.{anywhere}
 use Rattle.outline.specs.Outline.{records, branch, price}
 use Rattle.diversity.specs.Diversity.{clade, chosen, within, elsewhere, rooted, unrooted, diversity, cost}
-use Rattle.laws.proofs.Sums.{total-below}
+use Rattle.laws.proofs.Sums.{total_below}
 
 -- a test that holds wherever another does
 abbrev pub Implies : Bool → Bool → Type 0
 Implies a b = a ≡ true → b ≡ true
 
-implies-or : (a b c d : Bool) → Implies a c → Implies b d → Implies (a || b) (c || d)
-implies-or true b c d p q e = rw (p refl)
-implies-or false b true d p q e = refl
-implies-or false b false d p q e = q e
+implies_or : (a b c d : Bool) → Implies a c → Implies b d → Implies (a || b) (c || d)
+implies_or true b c d p q e = rw (p refl)
+implies_or false b true d p q e = refl
+implies_or false b false d p q e = q e
 
-pub implies-and : (a b c d : Bool) → Implies a c → Implies b d → Implies (a && b) (c && d)
-implies-and true b c d p q e = rw (p refl) (q e)
-implies-and false b c d p q e = absurd (false≢true e)
+pub implies_and : (a b c d : Bool) → Implies a c → Implies b d → Implies (a && b) (c && d)
+implies_and true b c d p q e = rw (p refl) (q e)
+implies_and false b c d p q e = absurd (false≢true e)
 
-pub implies-anywhere : (p q : ℕ → Bool) → ((x : ℕ) → Implies (p x) (q x)) → (xs : List ℕ) → Implies (anywhere p xs) (anywhere q xs)
+pub implies_anywhere : (p q : ℕ → Bool) → ((x : ℕ) → Implies (p x) (q x)) → (xs : List ℕ) → Implies (anywhere p xs) (anywhere q xs)
 unfolding anywhere
-implies-anywhere p q h [] e = e
-implies-anywhere p q h (x ∷ xs) e = implies-or (p x) (anywhere p xs) (q x) (anywhere q xs) (h x) (implies-anywhere p q h xs) e
+implies_anywhere p q h [] e = e
+implies_anywhere p q h (x ∷ xs) e = implies_or (p x) (anywhere p xs) (q x) (anywhere q xs) (h x) (implies_anywhere p q h xs) e
 
-implies-if : (a b : Bool) (n : ℕ) → Implies a b → (if a then n else 0) ≤ (if b then n else 0)
-implies-if true b n h = rw (h refl) (omega arith)
-implies-if false b n h = omega arith
+implies_if : (a b : Bool) (n : ℕ) → Implies a b → (if a then n else 0) ≤ (if b then n else 0)
+implies_if true b n h = rw (h refl) (omega arith)
+implies_if false b n h = omega arith
 
 module _ (o s t : List ℕ) (more : (r : ℕ) → Implies (chosen s r) (chosen t r)) where
-  pub within-more : (r : ℕ) → Implies (within o s r) (within o t r)
+  pub within_more : (r : ℕ) → Implies (within o s r) (within o t r)
   unfolding within
-  within-more r = implies-anywhere (chosen s) (chosen t) more (clade o r)
+  within_more r = implies_anywhere (chosen s) (chosen t) more (clade o r)
 
-  elsewhere-more : (r : ℕ) → Implies (elsewhere o s r) (elsewhere o t r)
+  elsewhere_more : (r : ℕ) → Implies (elsewhere o s r) (elsewhere o t r)
   unfolding elsewhere
-  elsewhere-more r = implies-anywhere _ _ (λ x. implies-and (chosen s x) _ (chosen t x) _ (more x) (λ e. e)) (records o)
+  elsewhere_more r = implies_anywhere _ _ (λ x. implies_and (chosen s x) _ (chosen t x) _ (more x) (λ e. e)) (records o)
 
-  pub diversity-more : (way : ℕ) → diversity o way s ≤ diversity o way t
+  pub diversity_more : (way : ℕ) → diversity o way s ≤ diversity o way t
   unfolding diversity rooted unrooted
-  diversity-more way = go (eqb way 0)
+  diversity_more way = go (eqb way 0)
     where
       go : (b : Bool) → (if b then rooted o s else unrooted o s) ≤ (if b then rooted o t else unrooted o t)
-      go true = total-below _ _ (records o) (λ r. implies-if (within o s r) (within o t r) (branch o r) (within-more r))
+      go true = total_below _ _ (records o) (λ r. implies_if (within o s r) (within o t r) (branch o r) (within_more r))
       go false =
-          total-below _ _ (records o)
-          (λ r. implies-if (within o s r && elsewhere o s r) (within o t r && elsewhere o t r) (branch o r)
-          (implies-and (within o s r) (elsewhere o s r) (within o t r) (elsewhere o t r) (within-more r) (elsewhere-more r)))
+          total_below _ _ (records o)
+          (λ r. implies_if (within o s r && elsewhere o s r) (within o t r && elsewhere o t r) (branch o r)
+          (implies_and (within o s r) (elsewhere o s r) (within o t r) (elsewhere o t r) (within_more r) (elsewhere_more r)))
 
-  pub cost-more : cost o s ≤ cost o t
+  pub cost_more : cost o s ≤ cost o t
   unfolding cost
-  cost-more = total-below _ _ (records o) (λ r. implies-if (within o s r) (within o t r) (price o r) (within-more r))
+  cost_more = total_below _ _ (records o) (λ r. implies_if (within o s r) (within o t r) (price o r) (within_more r))
 
 -- two lists of marks that choose alike cost the same, and have the same diversity
 module _ (o s t : List ℕ) (alike : (r : ℕ) → chosen s r ≡ chosen t r) where
-  pub cost-alike : cost o s ≡ cost o t
-  cost-alike = omega (arith, cost-more o s t (λ r e. sym (alike r) ∙ e), cost-more o t s (λ r e. alike r ∙ e))
+  pub cost_alike : cost o s ≡ cost o t
+  cost_alike = omega (arith, cost_more o s t (λ r e. sym (alike r) ∙ e), cost_more o t s (λ r e. alike r ∙ e))
 
-  pub diversity-alike : (way : ℕ) → diversity o way s ≡ diversity o way t
-  diversity-alike way =
-      omega (arith, diversity-more o s t (λ r e. sym (alike r) ∙ e) way, diversity-more o t s (λ r e. alike r ∙ e) way)
+  pub diversity_alike : (way : ℕ) → diversity o way s ≡ diversity o way t
+  diversity_alike way =
+      omega (arith, diversity_more o s t (λ r e. sym (alike r) ∙ e) way, diversity_more o t s (λ r e. alike r ∙ e) way)

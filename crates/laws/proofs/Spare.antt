@@ -10,54 +10,54 @@ use lib.Dec.{eqb, leb}
 use borrow.Author.Tests.{leb-true, le-leb, eq-eqb, ne_eqb}
 use Rattle.diversity.specs.Diversity.{cost}
 use Rattle.diversity.specs.Behind.{Fits}
-use Rattle.diversity.specs.Search.{exhaustiveSearch, isHolding, optimum, bestDiversity, leastCost, columnsAlike, spare}
-use Rattle.laws.specs.Locks.{lockedSet}
-use Rattle.laws.proofs.Locks.{some-fits}
-use Rattle.laws.proofs.Optimum.{search-exactly, optimum-set, optimum-fits, shown-diversity, shown-cost, greatest-diversity, least-cost}
+use Rattle.diversity.specs.Search.{exhaustive_search, is_holding, optimum, best_diversity, least_cost, columns_alike, spare}
+use Rattle.laws.specs.Locks.{locked_set}
+use Rattle.laws.proofs.Locks.{some_fits}
+use Rattle.laws.proofs.Optimum.{search_exactly, optimum_set, optimum_fits, shown_diversity, shown_cost, greatest_diversity, least_cost_lem}
 
 -- reading leftwards passes the columns from c on, and no other
-level-from : (alike : ℕ → Bool) (c n : ℕ) → c ≤ n → ((b : ℕ) → c ≤ b → b < n → alike b ≡ true) → ((b : ℕ) → b < c → alike b ≡ false)
-    → columnsAlike alike n ≡ n - c
-unfolding columnsAlike
-level-from alike c zero l same drops = omega arith
-level-from alike c (suc n) l same drops = go (eq-or-lt_of_le l) (λ m. level-from alike c n m (λ b k u. same b k (omega arith)) drops)
+level_from : (alike : ℕ → Bool) (c n : ℕ) → c ≤ n → ((b : ℕ) → c ≤ b → b < n → alike b ≡ true) → ((b : ℕ) → b < c → alike b ≡ false)
+    → columns_alike alike n ≡ n - c
+unfolding columns_alike
+level_from alike c zero l same drops = omega arith
+level_from alike c (suc n) l same drops = go (eq-or-lt_of_le l) (λ m. level_from alike c n m (λ b k u. same b k (omega arith)) drops)
   where
-    go : (c ≡ suc n) ⊎ (suc c ≤ suc n) → (c ≤ n → columnsAlike alike n ≡ n - c) → columnsAlike alike (suc n) ≡ suc n - c
+    go : (c ≡ suc n) ⊎ (suc c ≤ suc n) → (c ≤ n → columns_alike alike n ≡ n - c) → columns_alike alike (suc n) ≡ suc n - c
     go (inl e) ih = rw (drops n (omega arith)) (omega arith)
     go (inr h) ih = rw (same n (omega arith) (omega arith)) (omega (arith, ih (omega arith)))
 
-module _ (o : List ℕ) (way b : ℕ) (fit : cost o (lockedSet o) ≤ b) where
+module _ (o : List ℕ) (way b : ℕ) (fit : cost o (locked_set o) ≤ b) where
   abbrev alike : ℕ → Bool
-  alike c = isHolding (exhaustiveSearch o way c) && eqb (bestDiversity o way c) (bestDiversity o way b)
+  alike c = is_holding (exhaustive_search o way c) && eqb (best_diversity o way c) (best_diversity o way b)
 
   -- a column's best set, in another column that it fits
-  fits-too : (c d : ℕ) → cost o (lockedSet o) ≤ c → cost o (optimum o way c) ≤ d → Fits o d (optimum o way c)
-  fits-too c d h l = record { cost-most = l; locked-held = (optimum-fits o way c h).locked-held }
+  fits_too : (c d : ℕ) → cost o (locked_set o) ≤ c → cost o (optimum o way c) ≤ d → Fits o d (optimum o way c)
+  fits_too c d h l = record { cost_most = l; locked_held = (optimum_fits o way c h).locked_held }
 
-  rises : (c d : ℕ) → cost o (lockedSet o) ≤ c → cost o (optimum o way c) ≤ d → bestDiversity o way c ≤ bestDiversity o way d
-  rises c d h l = rw (shown-diversity o way c h) (greatest-diversity o way d (optimum o way c) (optimum-set o way c h) (fits-too c d h l))
+  rises : (c d : ℕ) → cost o (locked_set o) ≤ c → cost o (optimum o way c) ≤ d → best_diversity o way c ≤ best_diversity o way d
+  rises c d h l = rw (shown_diversity o way c h) (greatest_diversity o way d (optimum o way c) (optimum_set o way c h) (fits_too c d h l))
 
   level : (c : ℕ) → cost o (optimum o way b) ≤ c → c < b → alike c ≡ true
   level c l u =
-      let short : cost o (lockedSet o) ≤ c = (some-fits o c).0 (optimum o way b, optimum-set o way b fit, fits-too b c fit l) in
-      rw (search-exactly o way c, le-leb (cost o (lockedSet o)) c short)
-      (eq-eqb (bestDiversity o way c) (bestDiversity o way b) (omega (arith, rises b c fit l, rises c b short (omega (arith, (optimum-fits o way c short).cost-most)))))
+      let short : cost o (locked_set o) ≤ c = (some_fits o c).0 (optimum o way b, optimum_set o way b fit, fits_too b c fit l) in
+      rw (search_exactly o way c, le-leb (cost o (locked_set o)) c short)
+      (eq-eqb (best_diversity o way c) (best_diversity o way b) (omega (arith, rises b c fit l, rises c b short (omega (arith, (optimum_fits o way c short).cost_most)))))
 
   drops : (c : ℕ) → c < cost o (optimum o way b) → alike c ≡ false
-  drops c h = rw (search-exactly o way c) (go (leb (cost o (lockedSet o)) c) refl)
+  drops c h = rw (search_exactly o way c) (go (leb (cost o (locked_set o)) c) refl)
     where
-      lower : cost o (lockedSet o) ≤ c → bestDiversity o way c ≡ bestDiversity o way b → ⊥
+      lower : cost o (locked_set o) ≤ c → best_diversity o way c ≡ best_diversity o way b → ⊥
       lower short same =
-          let most = (optimum-fits o way c short).cost-most in
+          let most = (optimum_fits o way c short).cost_most in
           let t = optimum o way c in
-          let f = fits-too c b short (omega (arith, (optimum-fits o way b fit).cost-most)) in
-          let least = least-cost o way b t (optimum-set o way c short) f (rw (shown-diversity o way c short) at same) in
-          omega (arith, shown-cost o way b fit)
+          let f = fits_too c b short (omega (arith, (optimum_fits o way b fit).cost_most)) in
+          let least = least_cost_lem o way b t (optimum_set o way c short) f (rw (shown_diversity o way c short) at same) in
+          omega (arith, shown_cost o way b fit)
 
-      go : (t : Bool) → leb (cost o (lockedSet o)) c ≡ t → (t && eqb (bestDiversity o way c) (bestDiversity o way b)) ≡ false
+      go : (t : Bool) → leb (cost o (locked_set o)) c ≡ t → (t && eqb (best_diversity o way c) (best_diversity o way b)) ≡ false
       go true e = ne_eqb _ _ (lower (leb-true _ _ e))
       go false e = refl
 
-  pub spare-left : spare o way b ≡ b - leastCost o way b
+  pub spare_left : spare o way b ≡ b - least_cost o way b
   unfolding spare
-  spare-left = rw (shown-cost o way b fit) (level-from alike (cost o (optimum o way b)) b (optimum-fits o way b fit).cost-most level drops)
+  spare_left = rw (shown_cost o way b fit) (level_from alike (cost o (optimum o way b)) b (optimum_fits o way b fit).cost_most level drops)

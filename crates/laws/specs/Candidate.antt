@@ -19,8 +19,8 @@ plus v w = record {
 }
 
 -- the empty set
-abbrev pub nothingWorth : Value
-nothingWorth = record { locked = 0; diversity = 0; cost = 0; code = 0 }
+abbrev pub nothing_worth : Value
+nothing_worth = record { locked = 0; diversity = 0; cost = 0; code = 0 }
 
 -- a heading: a branch and a price, and no taxon
 abbrev pub heading : ℕ → ℕ → Value
@@ -41,24 +41,24 @@ pub data Cand : Type 0 where
   some : Value → Cand
 
 -- the better of two; none only if both are
-unfoldable pub betterOf : Cand → Cand → Cand
-betterOf none c = c
-betterOf (some v) none = some v
-betterOf (some v) (some w) = if beats w v then some w else some v
+unfoldable pub better_of : Cand → Cand → Cand
+better_of none c = c
+better_of (some v) none = some v
+better_of (some v) (some w) = if beats w v then some w else some v
 
 -- two sets with no taxon in common, taken together; none if either is none
-unfoldable pub joinOf : Cand → Cand → Cand
-joinOf none c = none
-joinOf (some v) none = none
-joinOf (some v) (some w) = some (plus v w)
+unfoldable pub join_of : Cand → Cand → Cand
+join_of none c = none
+join_of (some v) none = none
+join_of (some v) (some w) = some (plus v w)
 
 -- a set below a heading is charged with its branch and its price
-abbrev pub chargeOf : Cand → ℕ → ℕ → Cand
-chargeOf c length price = joinOf (some (heading length price)) c
+abbrev pub charge_of : Cand → ℕ → ℕ → Cand
+charge_of c length price = join_of (some (heading length price)) c
 
 -- the one value, where it fits b
-unfoldable pub oneAt : Value → ℕ → Cand
-oneAt v b = if leb v.cost b then some v else none
+unfoldable pub one_at : Value → ℕ → Cand
+one_at v b = if leb v.cost b then some v else none
 
 -- a candidate that is there is a value of P that fits b
 pub data From (P : Value → Type 0) (b : ℕ) : Cand → Type 0 where

@@ -9,18 +9,18 @@ pub data Forest : Type 0 where
   node : ℕ → Forest → Forest → Forest
 
 -- a record with these members is a group
-abbrev pub isGroup : Forest → Bool
-isGroup empty = false
-isGroup (node r f n) = true
+abbrev pub is_group : Forest → Bool
+is_group empty = false
+is_group (node r f n) = true
 
 -- the sum over a forest of what w makes of a record and its members
-abbrev pub sumIn : (ℕ → Forest → ℕ) → Forest → ℕ
-sumIn w empty = 0
-sumIn w (node r f n) = w r f + (sumIn w f + sumIn w n)
+abbrev pub sum_in : (ℕ → Forest → ℕ) → Forest → ℕ
+sum_in w empty = 0
+sum_in w (node r f n) = w r f + (sum_in w f + sum_in w n)
 
 -- how often t stands in a forest
-abbrev pub countIn : ℕ → Forest → ℕ
-countIn t F = sumIn (λ r f. one (eqb t r)) F
+abbrev pub count_in : ℕ → Forest → ℕ
+count_in t F = sum_in (λ r f. one (eqb t r)) F
 
 -- the forest from record r on; depth bounds how far to look
 unfoldable pub shape : ℕ → List ℕ → ℕ → Forest

@@ -9,9 +9,9 @@ unfoldable pub locks : List ℕ → ℕ
 locks o = total (λ r. one (locked o r)) (records o)
 
 -- how many of them are in the set s
-unfoldable pub locksHeld : List ℕ → List ℕ → ℕ
-locksHeld o s = total (λ r. if chosen s r then one (locked o r) else 0) (records o)
+unfoldable pub locks_held : List ℕ → List ℕ → ℕ
+locks_held o s = total (λ r. if chosen s r then one (locked o r) else 0) (records o)
 
 -- the marks of the locked taxa
-unfoldable pub lockedSet : List ℕ → List ℕ
-lockedSet o = map (λ r. one (locked o r)) (records o)
+unfoldable pub locked_set : List ℕ → List ℕ
+locked_set o = map (λ r. one (locked o r)) (records o)

@@ -11,182 +11,182 @@ use lib.ListN.{length, take, length-append}
 use lib.Seq.{take_all}
 use borrow.Author.Tests.{lt-ltb, le-ltb, leb-true, leb-false}
 use Rattle.lists.specs.Lists.{one, from}
-use Rattle.lists.proofs.Bools.{one-le, if-most}
+use Rattle.lists.proofs.Bools.{one_le, if_most}
 use Rattle.refusals.specs.Refusals.{Ruling}
 use Rattle.refusals.proofs.Placed.{Placed}
 use Rattle.outline.specs.Outline.{size, records, price, plate}
 use Rattle.outline.specs.WellFormed.{WellFormed}
-use Rattle.diversity.specs.Diversity.{chosen, within, diversity, cost, chosenTaxa}
-use Rattle.diversity.specs.Search.{optimum, blankCost, bestDiversity, leastCost}
-use Rattle.laws.specs.Locks.{lockedSet}
-use Rattle.laws.proofs.Optimum.{optimum-set, optimum-fits, shown-diversity, shown-cost, blank-diversity, blank-cost}
-use Rattle.laws.proofs.Sums.{total-most}
-use Rattle.choice.specs.Answer.{Call, judged, isSelected, bestSet, figures}
+use Rattle.diversity.specs.Diversity.{chosen, within, diversity, cost, chosen_taxa}
+use Rattle.diversity.specs.Search.{optimum, blank_cost, best_diversity, least_cost}
+use Rattle.laws.specs.Locks.{locked_set}
+use Rattle.laws.proofs.Optimum.{optimum_set, optimum_fits, shown_diversity, shown_cost, blank_diversity, blank_cost_lem}
+use Rattle.laws.proofs.Sums.{total_most}
+use Rattle.choice.specs.Answer.{Call, judged, is_selected, best_set, figures}
 use Rattle.choice.specs.Inner.{Solvable}
-use Rattle.choice.proofs.Answers.{way-known, selected-solvable}
-use Rattle.choice.proofs.Bounds.{judged-placed}
-use Rattle.choice.proofs.Solving.{diversity-most}
-use Rattle.sheet.specs.Sheet.{added, rowOf}
-use Rattle.sheet.proofs.Sums.{quarters-sum, diversity-sum}
+use Rattle.choice.proofs.Answers.{way_known, selected_solvable}
+use Rattle.choice.proofs.Bounds.{judged_placed}
+use Rattle.choice.proofs.Solving.{diversity_most}
+use Rattle.sheet.specs.Sheet.{added, row_of}
+use Rattle.sheet.proofs.Sums.{quarters_sum, diversity_sum}
 use Rattle.text.specs.Text.{decimal, others, line, labelled}
-use Rattle.text.proofs.Decimal.{decimal-most}
-use Rattle.text.proofs.Texts.{texts-length}
-use Rattle.listing.specs.Printed.{callWith, callOf, refusalText, firstLine, columnLine, taxonLine, totalWord, totalLine, sheetText}
-use Rattle.listing.specs.Printed.{selectionText, answerText, printed}
-use Rattle.outline.specs.Rules.{mostRecords}
+use Rattle.text.proofs.Decimal.{decimal_most}
+use Rattle.text.proofs.Texts.{texts_length}
+use Rattle.listing.specs.Printed.{call_with, call_of, refusal_text, first_line, column_line, taxon_line, total_word, total_line, sheet_text}
+use Rattle.listing.specs.Printed.{selection_text, answer_text, printed}
+use Rattle.outline.specs.Rules.{most_records}
 
 -- ---- a refusal
-refusal-most : (t : Ruling) → Placed mostRecords t → length (refusalText t) ≤ 15
-unfolding refusalText labelled others
-refusal-most t p =
+refusal_most : (t : Ruling) → Placed most_records t → length (refusal_text t) ≤ 15
+unfolding refusal_text labelled others
+refusal_most t p =
     simp length-append (omega (
       arith,
-      decimal-most 1 t.number (omega (arith, p.number-most)),
-      decimal-most 2 t.place (omega (arith, p.place-most)),
+      decimal_most 1 t.number (omega (arith, p.number_most)),
+      decimal_most 2 t.place (omega (arith, p.place_most)),
     ))
 
 -- ---- a selection
-total-length : (a b : ℕ) → length (labelled totalWord (a ∷ b ∷ [])) ≡ 8 + (length (decimal a) + length (decimal b))
+total_length : (a b : ℕ) → length (labelled total_word (a ∷ b ∷ [])) ≡ 8 + (length (decimal a) + length (decimal b))
 unfolding labelled others
-total-length a b = simp length-append (omega arith)
+total_length a b = simp length-append (omega arith)
 
 module _ (o : List ℕ) (formed : WellFormed o) (way : ℕ) (s : List ℕ) where
-  diversity-small : diversity o way s < 10 ^ 9
-  diversity-small = omega (arith, diversity-most o formed way s)
+  diversity_small : diversity o way s < 10 ^ 9
+  diversity_small = omega (arith, diversity_most o formed way s)
 
-  cost-small : cost o s < 10 ^ 7
+  cost_small : cost o s < 10 ^ 7
   unfolding cost records
-  cost-small =
+  cost_small =
       omega (
         arith,
-        total-most (λ r. if within o s r then price o r else 0) 65535 1 (size o)
-            (λ r l u. omega (arith, if-most (within o s r) (price o r), (formed.ranged r l (omega arith)).price-most)),
-        formed.size-most,
+        total_most (λ r. if within o s r then price o r else 0) 65535 1 (size o)
+            (λ r l u. omega (arith, if_most (within o s r) (price o r), (formed.ranged r l (omega arith)).price_most)),
+        formed.size_most,
       )
 
-  taxa-most : chosenTaxa o s < 10 ^ 3
-  unfolding chosenTaxa records
-  taxa-most = omega (arith, total-most (λ r. one (chosen s r)) 1 1 (size o) (λ r l u. one-le (chosen s r)), formed.size-most)
+  taxa_most : chosen_taxa o s < 10 ^ 3
+  unfolding chosen_taxa records
+  taxa_most = omega (arith, total_most (λ r. one (chosen s r)) 1 1 (size o) (λ r l u. one_le (chosen s r)), formed.size_most)
 
 module _ (c : Call) (known : (c.way ≡ 0) ⊎ (c.way ≡ 1)) (p : Solvable c) (narrow : length c.curve ≤ 1024) where
-  cost-most : (b : ℕ) → b ≤ c.count → cost c.outline (lockedSet c.outline) ≤ b → cost c.outline (optimum c.outline c.way b) < 10 ^ 3
-  cost-most b h fit = omega (arith, (optimum-fits c.outline c.way b fit).cost-most, p.curve-long)
+  cost_most : (b : ℕ) → b ≤ c.count → cost c.outline (locked_set c.outline) ≤ b → cost c.outline (optimum c.outline c.way b) < 10 ^ 3
+  cost_most b h fit = omega (arith, (optimum_fits c.outline c.way b fit).cost_most, p.curve_long)
 
-  first-most : length (firstLine c) ≤ 24
-  unfolding firstLine figures line others
-  first-most = simp length-append (omega (
+  first_most : length (first_line c) ≤ 24
+  unfolding first_line figures line others
+  first_most = simp length-append (omega (
     arith,
-    decimal-most 2 c.count (omega (arith, p.curve-long)),
-    decimal-most 0 c.way (⊎_elim (λ (e : c.way ≡ 0). omega arith) (λ (e : c.way ≡ 1). omega arith) known),
-    decimal-most 8 (diversity c.outline c.way (bestSet c)) (diversity-small c.outline p.formed c.way (bestSet c)),
-    decimal-most 2 (cost c.outline (bestSet c)) (cost-most c.count (omega arith) p.locked-fit),
-    decimal-most 2 (chosenTaxa c.outline (bestSet c)) (taxa-most c.outline p.formed c.way (bestSet c)),
+    decimal_most 2 c.count (omega (arith, p.curve_long)),
+    decimal_most 0 c.way (⊎_elim (λ (e : c.way ≡ 0). omega arith) (λ (e : c.way ≡ 1). omega arith) known),
+    decimal_most 8 (diversity c.outline c.way (best_set c)) (diversity_small c.outline p.formed c.way (best_set c)),
+    decimal_most 2 (cost c.outline (best_set c)) (cost_most c.count (omega arith) p.locked_fit),
+    decimal_most 2 (chosen_taxa c.outline (best_set c)) (taxa_most c.outline p.formed c.way (best_set c)),
   ))
 
   -- a column's two numbers: nine digits and three where a set fits, one digit and ten where none does
-  digits-most : (b : ℕ) → b ≤ c.count
-      → length (decimal (bestDiversity c.outline c.way b)) + length (decimal (leastCost c.outline c.way b)) ≤ 12
-  digits-most b h = go (leb (cost o (lockedSet o)) b) refl
+  digits_most : (b : ℕ) → b ≤ c.count
+      → length (decimal (best_diversity c.outline c.way b)) + length (decimal (least_cost c.outline c.way b)) ≤ 12
+  digits_most b h = go (leb (cost o (locked_set o)) b) refl
     where
       o : List ℕ
       o = c.outline
 
-      go : (t : Bool) → leb (cost o (lockedSet o)) b ≡ t → length (decimal (bestDiversity o c.way b)) + length (decimal (leastCost o c.way b)) ≤ 12
+      go : (t : Bool) → leb (cost o (locked_set o)) b ≡ t → length (decimal (best_diversity o c.way b)) + length (decimal (least_cost o c.way b)) ≤ 12
       go true e =
           let fit = leb-true _ _ e in
           let s = optimum o c.way b in
-          rw (shown-diversity o c.way b fit, shown-cost o c.way b fit)
-          (omega (arith, decimal-most 8 (diversity o c.way s) (diversity-small o p.formed c.way s), decimal-most 2 (cost o s) (cost-most b h fit)))
+          rw (shown_diversity o c.way b fit, shown_cost o c.way b fit)
+          (omega (arith, decimal_most 8 (diversity o c.way s) (diversity_small o p.formed c.way s), decimal_most 2 (cost o s) (cost_most b h fit)))
       go false e =
           let short = leb-false _ _ e in
-          rw (blank-diversity o c.way b short, blank-cost o c.way b short)
-          (omega (arith, decimal-most 0 0 (omega arith), decimal-most 9 blankCost (omega arith)))
+          rw (blank_diversity o c.way b short, blank_cost_lem o c.way b short)
+          (omega (arith, decimal_most 0 0 (omega arith), decimal_most 9 blank_cost (omega arith)))
 
-  column-most : (b : ℕ) → b ≤ c.count → length (columnLine c b) ≤ 18
-  unfolding columnLine line others
-  column-most b h = simp length-append (omega (arith, decimal-most 2 b (omega (arith, p.curve-long)), digits-most b h))
+  column_most : (b : ℕ) → b ≤ c.count → length (column_line c b) ≤ 18
+  unfolding column_line line others
+  column_most b h = simp length-append (omega (arith, decimal_most 2 b (omega (arith, p.curve_long)), digits_most b h))
 
-  taxon-most : (r : ℕ) → length (taxonLine c.outline c.way (bestSet c) r) ≤ 29
-  unfolding taxonLine rowOf
-  taxon-most r = go (chosen (bestSet c) r)
+  taxon_most : (r : ℕ) → length (taxon_line c.outline c.way (best_set c) r) ≤ 29
+  unfolding taxon_line row_of
+  taxon_most r = go (chosen (best_set c) r)
     where
       row : List ℕ
-      row = plate c.outline r ∷ added (cost c.outline) (bestSet c) r ∷ added (diversity c.outline c.way) (bestSet c) r ∷ []
+      row = plate c.outline r ∷ added (cost c.outline) (best_set c) r ∷ added (diversity c.outline c.way) (best_set c) r ∷ []
 
       written : length (line row) ≤ 29
       written = unfold line in unfold others in simp length-append (omega (
         arith,
-        decimal-most 9 (plate c.outline r) (omega arith),
-        decimal-most 6 (added (cost c.outline) (bestSet c) r) (omega (arith, cost-small c.outline p.formed c.way (take r (bestSet c)))),
-        decimal-most 8 (added (diversity c.outline c.way) (bestSet c) r)
-            (omega (arith, diversity-small c.outline p.formed c.way (take r (bestSet c)))),
+        decimal_most 9 (plate c.outline r) (omega arith),
+        decimal_most 6 (added (cost c.outline) (best_set c) r) (omega (arith, cost_small c.outline p.formed c.way (take r (best_set c)))),
+        decimal_most 8 (added (diversity c.outline c.way) (best_set c) r)
+            (omega (arith, diversity_small c.outline p.formed c.way (take r (best_set c)))),
       ))
 
       go : (b : Bool) → length (if b then line row else []) ≤ 29
       go true = written
       go false = omega arith
 
-  total-long : length (totalLine c.outline c.way (bestSet c)) ≤ 20
-  unfolding totalLine
-  total-long =
+  total_long : length (total_line c.outline c.way (best_set c)) ≤ 20
+  unfolding total_line
+  total_long =
       let o = c.outline in
-      let s = bestSet c in
-      let whole = (optimum-set o c.way c.count p.locked-fit).whole in
-      rw (quarters-sum o s whole, diversity-sum o s whole c.way)
+      let s = best_set c in
+      let whole = (optimum_set o c.way c.count p.locked_fit).whole in
+      rw (quarters_sum o s whole, diversity_sum o s whole c.way)
       (omega (
         arith,
-        total-length (cost o s) (diversity o c.way s),
-        decimal-most 2 (cost o s) (cost-most c.count (omega arith) p.locked-fit),
-        decimal-most 8 (diversity o c.way s) (diversity-small o p.formed c.way s),
+        total_length (cost o s) (diversity o c.way s),
+        decimal_most 2 (cost o s) (cost_most c.count (omega arith) p.locked_fit),
+        decimal_most 8 (diversity o c.way s) (diversity_small o p.formed c.way s),
       ))
 
-  selection-most : length (selectionText c) ≤ 16384
-  unfolding selectionText sheetText records
-  selection-most =
+  selection_most : length (selection_text c) ≤ 16384
+  unfolding selection_text sheet_text records
+  selection_most =
       let columns = from 0 (c.count + 1) in
       let taxa = from 1 (size c.outline) in
       simp length-append (omega (
         arith,
-        first-most,
-        texts-length (columnLine c) columns,
-        total-most (λ b. length (columnLine c b)) 18 0 (c.count + 1) (λ b l u. column-most b (omega arith)),
-        texts-length (taxonLine c.outline c.way (bestSet c)) taxa,
-        total-most (λ r. length (taxonLine c.outline c.way (bestSet c) r)) 29 1 (size c.outline) (λ r l u. taxon-most r),
-        total-long,
-        p.curve-long,
-        p.formed.size-most,
+        first_most,
+        texts_length (column_line c) columns,
+        total_most (λ b. length (column_line c b)) 18 0 (c.count + 1) (λ b l u. column_most b (omega arith)),
+        texts_length (taxon_line c.outline c.way (best_set c)) taxa,
+        total_most (λ r. length (taxon_line c.outline c.way (best_set c) r)) 29 1 (size c.outline) (λ r l u. taxon_most r),
+        total_long,
+        p.curve_long,
+        p.formed.size_most,
       ))
 
 -- ---- what is printed
-answer-most : (c : Call) → length c.curve ≤ 1024 → length (answerText c) ≤ 16384
-unfolding answerText
-answer-most c narrow = go (isSelected c) refl
+answer_most : (c : Call) → length c.curve ≤ 1024 → length (answer_text c) ≤ 16384
+unfolding answer_text
+answer_most c narrow = go (is_selected c) refl
   where
-    go : (b : Bool) → isSelected c ≡ b → length (if b then selectionText c else refusalText (judged c)) ≤ 16384
-    go true e = selection-most c (way-known c e) (selected-solvable c e) narrow
-    go false e = omega (arith, refusal-most (judged c) (judged-placed c))
+    go : (b : Bool) → is_selected c ≡ b → length (if b then selection_text c else refusal_text (judged c)) ≤ 16384
+    go true e = selection_most c (way_known c e) (selected_solvable c e) narrow
+    go false e = omega (arith, refusal_most (judged c) (judged_placed c))
 
-call-most : (l : List ℕ) → length (answerText (callOf l)) ≤ 16384
-unfolding callOf callWith
-call-most l = answer-most (callOf l) (omega arith)
+call_most : (l : List ℕ) → length (answer_text (call_of l)) ≤ 16384
+unfolding call_of call_with
+call_most l = answer_most (call_of l) (omega arith)
 
 -- ---- by the length of the input
-pub printed-short : (input : List ℕ) → length input < 4 → printed input ≡ refusalText (record { number = 2; place = 0 })
+pub printed_short : (input : List ℕ) → length input < 4 → printed input ≡ refusal_text (record { number = 2; place = 0 })
 unfolding printed
-printed-short input h = rw (lt-ltb (length input) 4 h)
+printed_short input h = rw (lt-ltb (length input) 4 h)
 
-pub printed-judged : (input : List ℕ) → 4 ≤ length input → printed input ≡ answerText (callOf (take 2052 input))
+pub printed_judged : (input : List ℕ) → 4 ≤ length input → printed input ≡ answer_text (call_of (take 2052 input))
 unfolding printed
-printed-judged input h = rw (le-ltb (length input) 4 h)
+printed_judged input h = rw (le-ltb (length input) 4 h)
 
-pub printed-whole : (input : List ℕ) → 4 ≤ length input → length input ≤ 2052 → printed input ≡ answerText (callOf input)
-printed-whole input h u = printed-judged input h ∙ ap (λ l. answerText (callOf l)) (take_all 2052 input u)
+pub printed_whole : (input : List ℕ) → 4 ≤ length input → length input ≤ 2052 → printed input ≡ answer_text (call_of input)
+printed_whole input h u = printed_judged input h ∙ ap (λ l. answer_text (call_of l)) (take_all 2052 input u)
 
-pub printed-fits : (input : List ℕ) → length (printed input) ≤ 16384
+pub printed_fits : (input : List ℕ) → length (printed input) ≤ 16384
 unfolding printed
-printed-fits input = go (ltb (length input) 4)
+printed_fits input = go (ltb (length input) 4)
   where
-    go : (t : Bool) → length (if t then refusalText (record { number = 2; place = 0 }) else answerText (callOf (take 2052 input))) ≤ 16384
+    go : (t : Bool) → length (if t then refusal_text (record { number = 2; place = 0 }) else answer_text (call_of (take 2052 input))) ≤ 16384
     go true =
-        omega (arith, refusal-most (record { number = 2; place = 0 }) (record { number-most = omega arith; place-most = omega arith }))
-    go false = call-most (take 2052 input)
+        omega (arith, refusal_most (record { number = 2; place = 0 }) (record { number_most = omega arith; place_most = omega arith }))
+    go false = call_most (take 2052 input)

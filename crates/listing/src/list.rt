@@ -1,8 +1,8 @@
 // The listing of an input.
 ghost use Rattle.std.specs.Prelude.{◌*◌, ◌≤◌, ◌<◌, length};
 ghost use Rattle.text.specs.Written.{LongEnough, Written};
-ghost use Rattle.listing.specs.FromBuffers.{wholeText, Listed};
-ghost use Rattle.listing.specs.Printed.{callOf, answerText, printed};
+ghost use Rattle.listing.specs.FromBuffers.{whole_text, Listed};
+ghost use Rattle.listing.specs.Printed.{call_of, answer_text, printed};
 
 use super::columns::put_columns;
 use super::refusal::put_refusal;
@@ -25,9 +25,9 @@ fn put_selection(
     requires first_some { 0 < length first.now }
     requires curve_long { 2 * width ≤ length curve.now }
     requires listed { Listed o.now way marks.now }
-    requires long_enough { LongEnough 0 (wholeText first.now curve.now width o.now way marks.now) buffer.old }
+    requires long_enough { LongEnough 0 (whole_text first.now curve.now width o.now way marks.now) buffer.old }
     ensures { Written 0
-        (wholeText first.now curve.now width o.now way marks.now)
+        (whole_text first.now curve.now width o.now way marks.now)
         buffer.old buffer.new result }
 {
     let columns = put_line(buffer, 0, first);
@@ -37,8 +37,8 @@ fn put_selection(
 
 // The listing of the bytes that are judged.
 fn list_bytes(buffer: &mut [u8], bytes: &[u8]) -> usize
-    requires { (4 ≤ length bytes.now) × LongEnough 0 (answerText (callOf bytes.now)) buffer.old }
-    ensures { Written 0 (answerText (callOf bytes.now)) buffer.old buffer.new result }
+    requires { (4 ≤ length bytes.now) × LongEnough 0 (answer_text (call_of bytes.now)) buffer.old }
+    ensures { Written 0 (answer_text (call_of bytes.now)) buffer.old buffer.new result }
 {
     let mut marks = [0u8; 127];
     let mut curve = [0u32; 1024];

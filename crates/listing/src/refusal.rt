@@ -1,14 +1,14 @@
 // The line of a refusal.
 ghost use Rattle.refusals.specs.Refusals.{refusal as told};
 ghost use Rattle.text.specs.Written.{LongEnough, Written};
-ghost use Rattle.listing.specs.Printed.{refusalText};
+ghost use Rattle.listing.specs.Printed.{refusal_text};
 
 use refusals::verdict::{Refusal, number_of, place_of};
 use text::put_labelled;
 
 pub fn put_refusal(buffer: &mut [u8], refusal: Refusal) -> usize
-    requires { LongEnough 0 (refusalText (told refusal)) buffer.old }
-    ensures { Written 0 (refusalText (told refusal)) buffer.old buffer.new result }
+    requires { LongEnough 0 (refusal_text (told refusal)) buffer.old }
+    ensures { Written 0 (refusal_text (told refusal)) buffer.old buffer.new result }
 {
     let number = number_of(refusal) as u64;
     let place = place_of(refusal) as u64;

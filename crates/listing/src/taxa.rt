@@ -2,16 +2,16 @@
 ghost use Rattle.std.specs.Prelude.{◌*◌, ◌+◌, ◌≤◌, ◌<◌, length, take};
 ghost use Rattle.outline.specs.Outline.{size};
 ghost use Rattle.text.specs.Written.{LongEnough, Written};
-ghost use Rattle.listing.specs.FromBuffers.{taxonText, taxaText, Listed};
-ghost use Rattle.listing.specs.Printed.{sheetText};
+ghost use Rattle.listing.specs.FromBuffers.{taxon_text, taxa_text, Listed};
+ghost use Rattle.listing.specs.Printed.{sheet_text};
 
 use sheet::{Answer, sheet};
 use text::{put_labelled, put_line};
 
 // Row k: plate, quarters added, diversity added.
 fn put_taxon(buffer: &mut [u8], at: usize, sheet: &[u32], k: usize) -> usize
-    requires { (3 * k + 2 < length sheet.now) × LongEnough at (taxonText sheet.now k) buffer.old }
-    ensures { Written at (taxonText sheet.now k) buffer.old buffer.new result }
+    requires { (3 * k + 2 < length sheet.now) × LongEnough at (taxon_text sheet.now k) buffer.old }
+    ensures { Written at (taxon_text sheet.now k) buffer.old buffer.new result }
 {
     let plate = sheet[3 * k];
     let quarters = sheet[3 * k + 1];
@@ -21,8 +21,8 @@ fn put_taxon(buffer: &mut [u8], at: usize, sheet: &[u32], k: usize) -> usize
 }
 
 fn put_taxa(buffer: &mut [u8], at: usize, sheet: &[u32], rows: usize) -> usize
-    requires { (3 * rows ≤ length sheet.now) × LongEnough at (taxaText sheet.now rows) buffer.old }
-    ensures { Written at (taxaText sheet.now rows) buffer.old buffer.new result }
+    requires { (3 * rows ≤ length sheet.now) × LongEnough at (taxa_text sheet.now rows) buffer.old }
+    ensures { Written at (taxa_text sheet.now rows) buffer.old buffer.new result }
 {
     let mut to = at;
     let mut k = 0;
@@ -36,8 +36,8 @@ fn put_taxa(buffer: &mut [u8], at: usize, sheet: &[u32], rows: usize) -> usize
 // The sheet of a marked set. What a choice marked is never refused.
 pub fn put_sheet(buffer: &mut [u8], at: usize, o: &[u8], way: u32, marks: &[u8]) -> usize
     requires listed { Listed o.now way marks.now }
-    requires long_enough { LongEnough at (sheetText o.now way (take (size o.now) marks.now)) buffer.old }
-    ensures { Written at (sheetText o.now way (take (size o.now) marks.now))
+    requires long_enough { LongEnough at (sheet_text o.now way (take (size o.now) marks.now)) buffer.old }
+    ensures { Written at (sheet_text o.now way (take (size o.now) marks.now))
         buffer.old buffer.new result }
 {
     let mut lent = [0u32; 192];

@@ -9,42 +9,42 @@ use borrow.Author.Tests.{eq-eqb, ne_eqb, eqb-true, eqb-false}
 use mir.Val.{bool_byte}
 use Rattle.lists.specs.Lists.{one}
 
-pub byte-one : (b : Bool) → bool_byte b ≡ one b
-byte-one true = refl
-byte-one false = refl
+pub byte_one : (b : Bool) → bool_byte b ≡ one b
+byte_one true = refl
+byte_one false = refl
 
-pub one-le : (b : Bool) → one b ≤ 1
-one-le true = omega arith
-one-le false = omega arith
+pub one_le : (b : Bool) → one b ≤ 1
+one_le true = omega arith
+one_le false = omega arith
 
 -- what is taken is at most what there is
-pub if-most : (b : Bool) (n : ℕ) → (if b then n else 0) ≤ n
-if-most true n = omega arith
-if-most false n = omega arith
+pub if_most : (b : Bool) (n : ℕ) → (if b then n else 0) ≤ n
+if_most true n = omega arith
+if_most false n = omega arith
 
-pub and-false : (b : Bool) → (b && false) ≡ false
-and-false true = refl
-and-false false = refl
+pub and_false : (b : Bool) → (b && false) ≡ false
+and_false true = refl
+and_false false = refl
 
-pub and-true : (b : Bool) → (b && true) ≡ b
-and-true true = refl
-and-true false = refl
+pub and_true : (b : Bool) → (b && true) ≡ b
+and_true true = refl
+and_true false = refl
 
-pub both-false : (a b : Bool) → (a || b) ≡ false → (a ≡ false) × (b ≡ false)
-both-false true b e = absurd (false≢true (sym e))
-both-false false b e = (refl, e)
+pub both_false : (a b : Bool) → (a || b) ≡ false → (a ≡ false) × (b ≡ false)
+both_false true b e = absurd (false≢true (sym e))
+both_false false b e = (refl, e)
 
-pub both-true : (a b : Bool) → (a && b) ≡ true → (a ≡ true) × (b ≡ true)
-both-true true b e = (refl, e)
-both-true false b e = absurd (false≢true e)
+pub both_true : (a b : Bool) → (a && b) ≡ true → (a ≡ true) × (b ≡ true)
+both_true true b e = (refl, e)
+both_true false b e = absurd (false≢true e)
 
-pub second-false : (a b : Bool) → (a && b) ≡ false → a ≡ true → b ≡ false
-second-false true b e h = e
-second-false false b e h = absurd (false≢true h)
+pub second_false : (a b : Bool) → (a && b) ≡ false → a ≡ true → b ≡ false
+second_false true b e h = e
+second_false false b e h = absurd (false≢true h)
 
 -- equality either way round
-pub eqb-comm : (a b : ℕ) → eqb a b ≡ eqb b a
-eqb-comm a b = go (eqb a b) refl
+pub eqb_comm : (a b : ℕ) → eqb a b ≡ eqb b a
+eqb_comm a b = go (eqb a b) refl
   where
     go : (c : Bool) → eqb a b ≡ c → eqb a b ≡ eqb b a
     go true e = e ∙ sym (eq-eqb b a (sym (eqb-true a b e)))

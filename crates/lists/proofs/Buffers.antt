@@ -10,34 +10,34 @@ use lib.Seq.{take-length, take_at, drop_at}
 use Rattle.lists.specs.Lists.{over}
 
 -- one number more from the left, and from the right
-one-up : (a b : List ℕ) (i : ℕ) → i < length a → i < length b → set (take i a ++ drop i b) i (get_or a i 0) ≡ take (suc i) a ++ drop (suc i) b
-one-up [] b i h k = absurd (omega arith)
-one-up (x ∷ a) [] i h k = absurd (omega arith)
-one-up (x ∷ a) (y ∷ b) zero h k = refl
-one-up (x ∷ a) (y ∷ b) (suc i) h k = ap (λ (l : List ℕ). x ∷ l) (one-up a b i (omega arith) (omega arith))
+one_up : (a b : List ℕ) (i : ℕ) → i < length a → i < length b → set (take i a ++ drop i b) i (get_or a i 0) ≡ take (suc i) a ++ drop (suc i) b
+one_up [] b i h k = absurd (omega arith)
+one_up (x ∷ a) [] i h k = absurd (omega arith)
+one_up (x ∷ a) (y ∷ b) zero h k = refl
+one_up (x ∷ a) (y ∷ b) (suc i) h k = ap (λ (l : List ℕ). x ∷ l) (one_up a b i (omega arith) (omega arith))
 
-one-down : (a b : List ℕ) (i : ℕ) → i < length a → i < length b → set (take (suc i) a ++ drop (suc i) b) i (get_or b i 0) ≡ take i a ++ drop i b
-one-down [] b i h k = absurd (omega arith)
-one-down (x ∷ a) [] i h k = absurd (omega arith)
-one-down (x ∷ a) (y ∷ b) zero h k = refl
-one-down (x ∷ a) (y ∷ b) (suc i) h k = ap (λ (l : List ℕ). x ∷ l) (one-down a b i (omega arith) (omega arith))
+one_down : (a b : List ℕ) (i : ℕ) → i < length a → i < length b → set (take (suc i) a ++ drop (suc i) b) i (get_or b i 0) ≡ take i a ++ drop i b
+one_down [] b i h k = absurd (omega arith)
+one_down (x ∷ a) [] i h k = absurd (omega arith)
+one_down (x ∷ a) (y ∷ b) zero h k = refl
+one_down (x ∷ a) (y ∷ b) (suc i) h k = ap (λ (l : List ℕ). x ∷ l) (one_down a b i (omega arith) (omega arith))
 
-over-long : (text buffer : List ℕ) → length text ≤ length buffer → length (over text buffer) ≡ length buffer
+over_long : (text buffer : List ℕ) → length text ≤ length buffer → length (over text buffer) ≡ length buffer
 unfolding over
-over-long text buffer h = simp (length-append, length-drop) (omega arith)
+over_long text buffer h = simp (length-append, length-drop) (omega arith)
 
 -- what was written, what is past it, and each number of what was written
-pub over-taken : (text buffer : List ℕ) (n : ℕ) → length text ≡ n → take n (over text buffer) ≡ text
+pub over_taken : (text buffer : List ℕ) (n : ℕ) → length text ≡ n → take n (over text buffer) ≡ text
 unfolding over
-over-taken text buffer n e = take_at text (drop (length text) buffer) n e
+over_taken text buffer n e = take_at text (drop (length text) buffer) n e
 
-pub over-past : (text buffer : List ℕ) (n : ℕ) → length text ≡ n → drop n (over text buffer) ≡ drop n buffer
+pub over_past : (text buffer : List ℕ) (n : ℕ) → length text ≡ n → drop n (over text buffer) ≡ drop n buffer
 unfolding over
-over-past text buffer n e = drop_at text (drop (length text) buffer) n e ∙ ap (λ k. drop k buffer) e
+over_past text buffer n e = drop_at text (drop (length text) buffer) n e ∙ ap (λ k. drop k buffer) e
 
-pub over-at : (text buffer : List ℕ) (i : ℕ) → i < length text → get_or (over text buffer) i 0 ≡ get_or text i 0
+pub over_at_lem : (text buffer : List ℕ) (i : ℕ) → i < length text → get_or (over text buffer) i 0 ≡ get_or text i 0
 unfolding over
-over-at text buffer i h = get_or-append text (drop (length text) buffer) 0 i h
+over_at_lem text buffer i h = get_or-append text (drop (length text) buffer) 0 i h
 
 -- a loop's invariant: the first i numbers of the text stand in the buffer, and the rest is as it was
 pub record Rising (text buffer now : List ℕ) (i : ℕ) : Type 0 where
@@ -45,20 +45,20 @@ pub record Rising (text buffer now : List ℕ) (i : ℕ) : Type 0 where
   pub fits : length text ≤ length buffer
   pub whole : now ≡ take i text ++ drop i buffer
 
-pub rising-starts : {text buffer : List ℕ} → length text ≤ length buffer → Rising text buffer buffer 0
-rising-starts h = record { most = omega arith; fits = h; whole = refl }
+pub rising_starts : {text buffer : List ℕ} → length text ≤ length buffer → Rising text buffer buffer 0
+rising_starts h = record { most = omega arith; fits = h; whole = refl }
 
 module _ {text buffer now : List ℕ} {i : ℕ} (h : Rising text buffer now i) where
-  pub rising-goes : {v : ℕ} → i < length text → v ≡ get_or text i 0 → Rising text buffer (set now i v) (i + 1)
-  rising-goes l e = record {
+  pub rising_goes : {v : ℕ} → i < length text → v ≡ get_or text i 0 → Rising text buffer (set now i v) (i + 1)
+  rising_goes l e = record {
     most = omega arith;
     fits = h.fits;
-    whole = rw (h.whole, e, add-one) (one-up text buffer i l (omega (arith, h.fits)));
+    whole = rw (h.whole, e, add-one) (one_up text buffer i l (omega (arith, h.fits)));
   }
 
-  pub rising-ends : length text ≤ i → now ≡ over text buffer
+  pub rising_ends : length text ≤ i → now ≡ over text buffer
   unfolding over
-  rising-ends l = let e : i ≡ length text = omega (arith, h.most) in h.whole ∙ rw (e, take-length)
+  rising_ends l = let e : i ≡ length text = omega (arith, h.most) in h.whole ∙ rw (e, take-length)
 
 -- the same from the right: the numbers from i on stand, and the rest is as it was
 pub record Falling (text buffer now : List ℕ) (i : ℕ) : Type 0 where
@@ -66,9 +66,9 @@ pub record Falling (text buffer now : List ℕ) (i : ℕ) : Type 0 where
   pub fits : length text ≤ length buffer
   pub whole : now ≡ take i buffer ++ drop i (over text buffer)
 
-pub falling-starts : {text buffer : List ℕ} → length text ≤ length buffer → Falling text buffer buffer (length text)
+pub falling_starts : {text buffer : List ℕ} → length text ≤ length buffer → Falling text buffer buffer (length text)
 unfolding over
-falling-starts {text} {buffer} h = record {
+falling_starts {text} {buffer} h = record {
   most = omega arith;
   fits = h;
   whole = sym (take-append-drop (length text) buffer) ∙ rw (drop_at text (drop (length text) buffer) (length text) refl);
@@ -81,11 +81,11 @@ module _ {text buffer now : List ℕ} {i : ℕ} (h : Falling text buffer now i) 
   inside : i - 1 < length buffer
   inside = omega (arith, h.most, h.fits)
 
-  pub falling-goes : {v : ℕ} → v ≡ get_or text (i - 1) 0 → Falling text buffer (set now (i - 1) v) (i - 1)
-  falling-goes e = record {
+  pub falling_goes : {v : ℕ} → v ≡ get_or text (i - 1) 0 → Falling text buffer (set now (i - 1) v) (i - 1)
+  falling_goes e = record {
     most = omega (arith, h.most);
     fits = h.fits;
     whole =
-        rw (before, e, ← over-at text buffer (i - 1) (omega (arith, h.most)))
-        (one-down buffer (over text buffer) (i - 1) inside (rw (over-long text buffer h.fits) inside));
+        rw (before, e, ← over_at_lem text buffer (i - 1) (omega (arith, h.most)))
+        (one_down buffer (over text buffer) (i - 1) inside (rw (over_long text buffer h.fits) inside));
   }

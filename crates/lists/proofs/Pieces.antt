@@ -6,39 +6,39 @@ use native.Mathlib.Numerals.{add-one}
 use native.Mathlib.Omega.{arith}
 use lib.ListN.{length, get_or, take, drop, set, length-append, length-drop, take-append-drop}
 use lib.Seq.{set_split, drop-cons, take_at, drop_at, take-append-le, take-take, drop-drop, length-take-le}
-use Rattle.lists.specs.Lists.{over, overAt}
+use Rattle.lists.specs.Lists.{over, over_at}
 
 -- the two numbers at a place, and what follows them
-pub two-at : (xs : List ℕ) (i : ℕ) → i + 1 < length xs → drop i xs ≡ get_or xs i 0 ∷ get_or xs (i + 1) 0 ∷ drop (i + 2) xs
-two-at xs i h =
+pub two_at : (xs : List ℕ) (i : ℕ) → i + 1 < length xs → drop i xs ≡ get_or xs i 0 ∷ get_or xs (i + 1) 0 ∷ drop (i + 2) xs
+two_at xs i h =
     let e : suc i ≡ i + 1 = sym (add-one i) in
     let f : suc (i + 1) ≡ i + 2 = omega arith in
     drop-cons xs i 0 (omega arith) ∙ rw (e, drop-cons xs (i + 1) 0 h, f)
 
 -- what follows a piece that stands at a place
-pub after-list : (xs : List ℕ) (i n : ℕ) (s rest : List ℕ) → length s ≡ n → drop i xs ≡ s ++ rest → drop (i + n) xs ≡ rest
-after-list xs i n s rest e h = sym (drop-drop n i xs) ∙ rw h (drop_at s rest n e)
+pub after_list : (xs : List ℕ) (i n : ℕ) (s rest : List ℕ) → length s ≡ n → drop i xs ≡ s ++ rest → drop (i + n) xs ≡ rest
+after_list xs i n s rest e h = sym (drop-drop n i xs) ∙ rw h (drop_at s rest n e)
 
 -- one number
-pub over-one : (at b : ℕ) (buffer : List ℕ) → at < length buffer → set buffer at b ≡ overAt at (b ∷ []) buffer
-unfolding over overAt
-over-one at b buffer h = rw (drop-drop 1 at buffer, add-one) (set_split buffer at b h)
+pub over_one : (at b : ℕ) (buffer : List ℕ) → at < length buffer → set buffer at b ≡ over_at at (b ∷ []) buffer
+unfolding over over_at
+over_one at b buffer h = rw (drop-drop 1 at buffer, add-one) (set_split buffer at b h)
 
 -- nothing
-pub over-nothing : (at : ℕ) (buffer : List ℕ) → overAt at [] buffer ≡ buffer
-unfolding over overAt
-over-nothing at buffer = take-append-drop at buffer
+pub over_nothing : (at : ℕ) (buffer : List ℕ) → over_at at [] buffer ≡ buffer
+unfolding over over_at
+over_nothing at buffer = take-append-drop at buffer
 
 -- what is written inside a buffer leaves its length
-pub over-length : (at : ℕ) (s buffer : List ℕ) → at + length s ≤ length buffer → length (overAt at s buffer) ≡ length buffer
-unfolding over overAt
-over-length at s buffer h = simp (length-append, length-drop) (omega (arith, length-take-le at buffer (omega arith)))
+pub over_length : (at : ℕ) (s buffer : List ℕ) → at + length s ≤ length buffer → length (over_at at s buffer) ≡ length buffer
+unfolding over over_at
+over_length at s buffer h = simp (length-append, length-drop) (omega (arith, length-take-le at buffer (omega arith)))
 
 -- a piece after another
-pub over-both : (at to : ℕ) (s t buffer : List ℕ) → at ≤ length buffer → to ≡ at + length s
-    → overAt to t (overAt at s buffer) ≡ overAt at (s ++ t) buffer
-unfolding over overAt
-over-both at to s t buffer h z =
+pub over_both : (at to : ℕ) (s t buffer : List ℕ) → at ≤ length buffer → to ≡ at + length s
+    → over_at to t (over_at at s buffer) ≡ over_at at (s ++ t) buffer
+unfolding over over_at
+over_both at to s t buffer h z =
     let front = take at buffer ++ s in
     let rest = drop at buffer in
     let back = drop (length s) rest in
@@ -47,10 +47,10 @@ over-both at to s t buffer h z =
     rw (z, whole, take_at front back _ long, drop_at front back _ long, drop-drop (length t) (length s) rest, ← length-append s t) (simp append_assoc)
 
 -- a piece before another
-pub over-before : (at to : ℕ) (s t buffer : List ℕ) → to ≤ length buffer → to ≡ at + length s
-    → overAt at s (overAt to t buffer) ≡ overAt at (s ++ t) buffer
-unfolding over overAt
-over-before at to s t buffer h z =
+pub over_before : (at to : ℕ) (s t buffer : List ℕ) → to ≤ length buffer → to ≡ at + length s
+    → over_at at s (over_at to t buffer) ≡ over_at at (s ++ t) buffer
+unfolding over over_at
+over_before at to s t buffer h z =
     let back = t ++ drop (length t) (drop to buffer) in
     let long : length (take to buffer) ≡ to = length-take-le to buffer h in
     let before : take at (take to buffer ++ back) ≡ take at buffer =

@@ -9,22 +9,22 @@ use native.Mathlib.Omega.{arith}
 use lib.Dec.{eqb}
 use borrow.Author.Tests.{eq-eqb, ne_eqb, eqb-true, eqb-false, not-false}
 use Rattle.lists.specs.Lists.{from, anywhere, total, lowest}
-use Rattle.lists.proofs.Bools.{both-false}
+use Rattle.lists.proofs.Bools.{both_false}
 
 -- what is left to pass at r
 abbrev pub rest : ℕ → ℕ → List ℕ
 rest r n = from r (n + 1 - r)
 
-rest-all : (n : ℕ) → rest 1 n ≡ from 1 n
-rest-all n = let e : n + 1 - 1 ≡ n = omega arith in rw e
+rest_all : (n : ℕ) → rest 1 n ≡ from 1 n
+rest_all n = let e : n + 1 - 1 ≡ n = omega arith in rw e
 
-rest-more : (r n : ℕ) → r ≤ n → rest r n ≡ r ∷ rest (r + 1) n
+rest_more : (r n : ℕ) → r ≤ n → rest r n ≡ r ∷ rest (r + 1) n
 unfolding from
-rest-more r n h = let e : n + 1 - r ≡ suc (n + 1 - (r + 1)) = omega arith in rw e
+rest_more r n h = let e : n + 1 - r ≡ suc (n + 1 - (r + 1)) = omega arith in rw e
 
-rest-none : (r n : ℕ) → n < r → rest r n ≡ []
+rest_none : (r n : ℕ) → n < r → rest r n ≡ []
 unfolding from
-rest-none r n h = let e : n + 1 - r ≡ 0 = omega arith in rw e
+rest_none r n h = let e : n + 1 - r ≡ 0 = omega arith in rw e
 
 -- the sum so far, with the sum of what is left, is the whole sum; it is at most so much for each number passed, so that it does not
 -- overflow
@@ -44,46 +44,46 @@ pub record Seeking (p : ℕ → Bool) (n r : ℕ) : Type 0 where
   pub whole : lowest p (rest r n) ≡ lowest p (from 1 n)
 
 module _ {most : ℕ} (f : ℕ → ℕ) (n : ℕ) where
-  pub summing-starts : Summing most f n 0 1
-  summing-starts = record { low = omega arith; small = omega arith; whole = rw rest-all (omega arith) }
+  pub summing_starts : Summing most f n 0 1
+  summing_starts = record { low = omega arith; small = omega arith; whole = rw rest_all (omega arith) }
 
-  pub summing-goes : {sum r v : ℕ} → Summing most f n sum r → r ≤ n → v ≡ f r → v ≤ most → Summing most f n (sum + v) (r + 1)
-  summing-goes {sum} {r} {v} s h e b =
+  pub summing_goes : {sum r v : ℕ} → Summing most f n sum r → r ≤ n → v ≡ f r → v ≤ most → Summing most f n (sum + v) (r + 1)
+  summing_goes {sum} {r} {v} s h e b =
       let passed : r + 1 - 1 ≡ r - 1 + 1 = omega (arith, s.low) in
       let more : most * (r + 1 - 1) ≡ most * (r - 1) + most * 1 = ap (λ k. most * k) passed ∙ mul-add most (r - 1) 1 in
       record {
         low = omega arith;
         small = omega (arith, s.small);
-        whole = let step : f r + total f (rest (r + 1) n) ≡ total f (rest r n) = unfold total in rw (rest-more r n h) in omega arith;
+        whole = let step : f r + total f (rest (r + 1) n) ≡ total f (rest r n) = unfold total in rw (rest_more r n h) in omega arith;
       }
 
-  pub summing-ends : {sum r : ℕ} → Summing most f n sum r → n < r → sum ≡ total f (from 1 n)
-  summing-ends {sum} {r} s h = let none : total f (rest r n) ≡ 0 = unfold total in rw (rest-none r n h) in omega arith
+  pub summing_ends : {sum r : ℕ} → Summing most f n sum r → n < r → sum ≡ total f (from 1 n)
+  summing_ends {sum} {r} s h = let none : total f (rest r n) ≡ 0 = unfold total in rw (rest_none r n h) in omega arith
 
 module _ (f : ℕ → ℕ → ℕ) (start n : ℕ) where
-  pub folding-starts : Folding f start n start 1
-  folding-starts = record { low = omega arith; whole = rw rest-all refl }
+  pub folding_starts : Folding f start n start 1
+  folding_starts = record { low = omega arith; whole = rw rest_all refl }
 
-  pub folding-goes : {hand r v : ℕ} → Folding f start n hand r → r ≤ n → v ≡ f hand r → Folding f start n v (r + 1)
-  folding-goes {hand} {r} h u e = record { low = omega arith; whole = rw e (ap (foldl f hand) (sym (rest-more r n u)) ∙ h.whole) }
+  pub folding_goes : {hand r v : ℕ} → Folding f start n hand r → r ≤ n → v ≡ f hand r → Folding f start n v (r + 1)
+  folding_goes {hand} {r} h u e = record { low = omega arith; whole = rw e (ap (foldl f hand) (sym (rest_more r n u)) ∙ h.whole) }
 
-  pub folding-ends : {hand r : ℕ} → Folding f start n hand r → n < r → hand ≡ foldl f start (from 1 n)
-  folding-ends {hand} {r} h u = ap (foldl f hand) (sym (rest-none r n u)) ∙ h.whole
+  pub folding_ends : {hand r : ℕ} → Folding f start n hand r → n < r → hand ≡ foldl f start (from 1 n)
+  folding_ends {hand} {r} h u = ap (foldl f hand) (sym (rest_none r n u)) ∙ h.whole
 
 module _ (p : ℕ → Bool) (n : ℕ) where
-  pub seeking-goes : {r : ℕ} → Seeking p n r → r ≤ n → p r ≡ false → Seeking p n (r + 1)
+  pub seeking_goes : {r : ℕ} → Seeking p n r → r ≤ n → p r ≡ false → Seeking p n (r + 1)
   unfolding lowest
-  seeking-goes {r} s h e =
-      let step : lowest p (rest (r + 1) n) ≡ lowest p (rest r n) = rw (rest-more r n h, e) in
+  seeking_goes {r} s h e =
+      let step : lowest p (rest (r + 1) n) ≡ lowest p (rest r n) = rw (rest_more r n h, e) in
       record { low = omega arith; whole = step ∙ s.whole }
 
-  pub seeking-finds : {r : ℕ} → Seeking p n r → r ≤ n → p r ≡ true → r ≡ lowest p (from 1 n)
+  pub seeking_finds : {r : ℕ} → Seeking p n r → r ≤ n → p r ≡ true → r ≡ lowest p (from 1 n)
   unfolding lowest
-  seeking-finds {r} s h e = let here : r ≡ lowest p (rest r n) = rw (rest-more r n h, e) in here ∙ s.whole
+  seeking_finds {r} s h e = let here : r ≡ lowest p (rest r n) = rw (rest_more r n h, e) in here ∙ s.whole
 
-  pub seeking-ends : {r : ℕ} → Seeking p n r → n < r → 0 ≡ lowest p (from 1 n)
+  pub seeking_ends : {r : ℕ} → Seeking p n r → n < r → 0 ≡ lowest p (from 1 n)
   unfolding lowest
-  seeking-ends {r} s h = let none : 0 ≡ lowest p (rest r n) = rw (rest-none r n h) in none ∙ s.whole
+  seeking_ends {r} s h = let none : 0 ≡ lowest p (rest r n) = rw (rest_none r n h) in none ∙ s.whole
 
 -- v is the lowest of the n numbers from k on at which the test holds, or 0 and it holds at none
 pub data Lowest (p : ℕ → Bool) (k n : ℕ) : ℕ → Type 0 where
@@ -91,101 +91,101 @@ pub data Lowest (p : ℕ → Bool) (k n : ℕ) : ℕ → Type 0 where
   here : {r : ℕ} → k ≤ r → r < k + n → p r ≡ true → ((q : ℕ) → k ≤ q → q < r → p q ≡ false) → Lowest p k n r
 
 -- one number more at the front, at which the test fails
-lowest-later : (p : ℕ → Bool) (k n : ℕ) → p k ≡ false → {v : ℕ} → Lowest p (k + 1) n v → Lowest p k (suc n) v
-lowest-later p k n e (none f) = none (λ r l u. go r (eqb r k) refl l u)
+lowest_later : (p : ℕ → Bool) (k n : ℕ) → p k ≡ false → {v : ℕ} → Lowest p (k + 1) n v → Lowest p k (suc n) v
+lowest_later p k n e (none f) = none (λ r l u. go r (eqb r k) refl l u)
   where
     go : (r : ℕ) (t : Bool) → eqb r k ≡ t → k ≤ r → r < k + suc n → p r ≡ false
     go r true q l u = rw (eqb-true r k q) e
     go r false q l u = let d = eqb-false r k q in f r (omega arith) (omega arith)
-lowest-later p k n e (here {r} l u h f) = here {r = r} (omega arith) (omega arith) h (λ q m w. go q (eqb q k) refl m w)
+lowest_later p k n e (here {r} l u h f) = here {r = r} (omega arith) (omega arith) h (λ q m w. go q (eqb q k) refl m w)
   where
     go : (q : ℕ) (t : Bool) → eqb q k ≡ t → k ≤ q → q < r → p q ≡ false
     go q true i m w = rw (eqb-true q k i) e
     go q false i m w = let d = eqb-false q k i in f q (omega arith) w
 
-pub lowest-from : (p : ℕ → Bool) (k n : ℕ) → Lowest p k n (lowest p (from k n))
+pub lowest_from : (p : ℕ → Bool) (k n : ℕ) → Lowest p k n (lowest p (from k n))
 unfolding lowest from
-lowest-from p k zero = none (λ r l u. absurd (omega arith))
-lowest-from p k (suc n) = go (p k) refl (lowest-from p (k + 1) n)
+lowest_from p k zero = none (λ r l u. absurd (omega arith))
+lowest_from p k (suc n) = go (p k) refl (lowest_from p (k + 1) n)
   where
     go : (b : Bool) → p k ≡ b → Lowest p (k + 1) n (lowest p (from (k + 1) n)) → Lowest p k (suc n) (lowest p (from k (suc n)))
     go true e ih = rw e (here {r = k} (omega arith) (omega arith) e (λ q l u. absurd (omega arith)))
-    go false e ih = rw e (lowest-later p k n e ih)
+    go false e ih = rw e (lowest_later p k n e ih)
 
 -- tests that agree have the same lowest
-pub lowest-ext : (p q : ℕ → Bool) (k n : ℕ) → ((r : ℕ) → k ≤ r → r < k + n → p r ≡ q r) → lowest p (from k n) ≡ lowest q (from k n)
+pub lowest_ext : (p q : ℕ → Bool) (k n : ℕ) → ((r : ℕ) → k ≤ r → r < k + n → p r ≡ q r) → lowest p (from k n) ≡ lowest q (from k n)
 unfolding lowest from
-lowest-ext p q k zero h = refl
-lowest-ext p q k (suc n) h = rw (h k (omega arith) (omega arith), lowest-ext p q (k + 1) n (λ r l u. h r (omega arith) (omega arith))) refl
+lowest_ext p q k zero h = refl
+lowest_ext p q k (suc n) h = rw (h k (omega arith) (omega arith), lowest_ext p q (k + 1) n (λ r l u. h r (omega arith) (omega arith))) refl
 
 module _ (p : ℕ → Bool) (n : ℕ) where
   -- where the lowest is 0, the test holds nowhere
-  pub lowest-none : lowest p (from 1 n) ≡ 0 → (r : ℕ) → 1 ≤ r → r ≤ n → p r ≡ false
-  lowest-none z r l u = go (lowest-from p 1 n) z
+  pub lowest_none : lowest p (from 1 n) ≡ 0 → (r : ℕ) → 1 ≤ r → r ≤ n → p r ≡ false
+  lowest_none z r l u = go (lowest_from p 1 n) z
     where
       go : {v : ℕ} → Lowest p 1 n v → v ≡ 0 → p r ≡ false
       go (none f) e = f r l (omega arith)
       go (here a b h f) e = absurd (omega arith)
 
   -- and where the test holds nowhere, it is 0
-  pub none-lowest : ((r : ℕ) → 1 ≤ r → r ≤ n → p r ≡ false) → lowest p (from 1 n) ≡ 0
-  none-lowest f = go (lowest-from p 1 n)
+  pub none_lowest : ((r : ℕ) → 1 ≤ r → r ≤ n → p r ≡ false) → lowest p (from 1 n) ≡ 0
+  none_lowest f = go (lowest_from p 1 n)
     where
       go : {v : ℕ} → Lowest p 1 n v → v ≡ 0
       go (none g) = refl
       go (here {r} l u t g) = absurd (false≢true (sym (f r l (omega arith)) ∙ t))
 
   -- where it is not 0, it is one of the numbers, and the test holds there
-  pub lowest-holds : (lowest p (from 1 n) ≡ 0 → ⊥) → (1 ≤ lowest p (from 1 n)) × (lowest p (from 1 n) ≤ n) × (p (lowest p (from 1 n)) ≡ true)
-  lowest-holds d = go (lowest-from p 1 n) d
+  pub lowest_holds : (lowest p (from 1 n) ≡ 0 → ⊥) → (1 ≤ lowest p (from 1 n)) × (lowest p (from 1 n) ≤ n) × (p (lowest p (from 1 n)) ≡ true)
+  lowest_holds d = go (lowest_from p 1 n) d
     where
       go : {v : ℕ} → Lowest p 1 n v → (v ≡ 0 → ⊥) → (1 ≤ v) × (v ≤ n) × (p v ≡ true)
       go (none f) d = absurd (d refl)
       go (here a b h f) d = (a, omega arith, h)
 
-  pub lowest-le : lowest p (from 1 n) ≤ n
-  lowest-le = go (lowest-from p 1 n)
+  pub lowest_le : lowest p (from 1 n) ≤ n
+  lowest_le = go (lowest_from p 1 n)
     where
       go : {v : ℕ} → Lowest p 1 n v → v ≤ n
       go (none f) = omega arith
       go (here a b h f) = omega arith
 
 -- the test holds somewhere where the lowest is not 0
-anywhere-from : (p : ℕ → Bool) (k n : ℕ) → 1 ≤ k → not (eqb (lowest p (from k n)) 0) ≡ anywhere p (from k n)
+anywhere_from : (p : ℕ → Bool) (k n : ℕ) → 1 ≤ k → not (eqb (lowest p (from k n)) 0) ≡ anywhere p (from k n)
 unfolding anywhere lowest from
-anywhere-from p k zero h = refl
-anywhere-from p k (suc n) h = go (p k) refl (anywhere-from p (k + 1) n (omega arith))
+anywhere_from p k zero h = refl
+anywhere_from p k (suc n) h = go (p k) refl (anywhere_from p (k + 1) n (omega arith))
   where
     go : (b : Bool) → p k ≡ b → not (eqb (lowest p (from (k + 1) n)) 0) ≡ anywhere p (from (k + 1) n)
         → not (eqb (lowest p (from k (suc n))) 0) ≡ anywhere p (from k (suc n))
     go true e ih = rw e (ap not (ne_eqb k 0 (omega arith)))
     go false e ih = rw e ih
 
-pub anywhere-lowest : (p : ℕ → Bool) (n : ℕ) → not (eqb (lowest p (from 1 n)) 0) ≡ anywhere p (from 1 n)
-anywhere-lowest p n = anywhere-from p 1 n (omega arith)
+pub anywhere_lowest : (p : ℕ → Bool) (n : ℕ) → not (eqb (lowest p (from 1 n)) 0) ≡ anywhere p (from 1 n)
+anywhere_lowest p n = anywhere_from p 1 n (omega arith)
 
-pub anywhere-none : (p : ℕ → Bool) (n : ℕ) → anywhere p (from 1 n) ≡ false → (r : ℕ) → 1 ≤ r → r ≤ n → p r ≡ false
-anywhere-none p n e = lowest-none p n (eqb-true _ _ (not-false _ (anywhere-lowest p n ∙ e)))
+pub anywhere_none : (p : ℕ → Bool) (n : ℕ) → anywhere p (from 1 n) ≡ false → (r : ℕ) → 1 ≤ r → r ≤ n → p r ≡ false
+anywhere_none p n e = lowest_none p n (eqb-true _ _ (not-false _ (anywhere_lowest p n ∙ e)))
 
-pub none-anywhere : (p : ℕ → Bool) (n : ℕ) → ((r : ℕ) → 1 ≤ r → r ≤ n → p r ≡ false) → anywhere p (from 1 n) ≡ false
-none-anywhere p n f = sym (anywhere-lowest p n) ∙ ap not (eq-eqb _ _ (none-lowest p n f))
+pub none_anywhere : (p : ℕ → Bool) (n : ℕ) → ((r : ℕ) → 1 ≤ r → r ≤ n → p r ≡ false) → anywhere p (from 1 n) ≡ false
+none_anywhere p n f = sym (anywhere_lowest p n) ∙ ap not (eq-eqb _ _ (none_lowest p n f))
 
 -- the numbers from k on, in two parts
-pub from-both : (k a b : ℕ) → from k (a + b) ≡ from k a ++ from (k + a) b
+pub from_both : (k a b : ℕ) → from k (a + b) ≡ from k a ++ from (k + a) b
 unfolding from
-from-both k zero b = let e : 0 + b ≡ b = omega arith in let d : k + 0 ≡ k = omega arith in rw (e, d)
-from-both k (suc a) b =
+from_both k zero b = let e : 0 + b ≡ b = omega arith in let d : k + 0 ≡ k = omega arith in rw (e, d)
+from_both k (suc a) b =
     let e : suc a + b ≡ suc (a + b) = omega arith in
     let d : k + suc a ≡ k + 1 + a = omega arith in
-    rw (e, d) (ap (λ xs. k ∷ xs) (from-both (k + 1) a b))
+    rw (e, d) (ap (λ xs. k ∷ xs) (from_both (k + 1) a b))
 
 -- the last of them
-pub from-last : (k n : ℕ) → from k (suc n) ≡ from k n ++ ((k + n) ∷ [])
+pub from_last : (k n : ℕ) → from k (suc n) ≡ from k n ++ ((k + n) ∷ [])
 unfolding from
-from-last k n = let e : suc n ≡ n + 1 = omega arith in ap (from k) e ∙ from-both k n 1
+from_last k n = let e : suc n ≡ n + 1 = omega arith in ap (from k) e ∙ from_both k n 1
 
 -- a test that holds in neither of two parts holds nowhere
-pub nowhere-both : (p : ℕ → Bool) (xs ys : List ℕ) → anywhere p xs ≡ false → anywhere p ys ≡ false → anywhere p (xs ++ ys) ≡ false
+pub nowhere_both : (p : ℕ → Bool) (xs ys : List ℕ) → anywhere p xs ≡ false → anywhere p ys ≡ false → anywhere p (xs ++ ys) ≡ false
 unfolding anywhere
-nowhere-both p [] ys e f = f
-nowhere-both p (x ∷ xs) ys e f = let parts = both-false (p x) (anywhere p xs) e in rw parts.0 (nowhere-both p xs ys parts.1 f)
+nowhere_both p [] ys e f = f
+nowhere_both p (x ∷ xs) ys e f = let parts = both_false (p x) (anywhere p xs) e in rw parts.0 (nowhere_both p xs ys parts.1 f)

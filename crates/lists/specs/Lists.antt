@@ -35,8 +35,8 @@ unfoldable pub over : List ℕ → List ℕ → List ℕ
 over text buffer = text ++ drop (length text) buffer
 
 -- numbers written in a buffer at a place: what stands before the place stays, and they are written over the rest
-unfoldable pub overAt : ℕ → List ℕ → List ℕ → List ℕ
-overAt at text buffer = take at buffer ++ over text (drop at buffer)
+unfoldable pub over_at : ℕ → List ℕ → List ℕ → List ℕ
+over_at at text buffer = take at buffer ++ over text (drop at buffer)
 
 -- a list of bytes
 pub record Bytes (xs : List ℕ) : Type 0 where

@@ -9,44 +9,44 @@ use lib.ListN.{length, get_or, drop, replicate}
 use lib.Seq.{get_or-drop}
 use mir.Val.{bool_byte}
 use Rattle.lists.specs.Lists.{one, total, over}
-use Rattle.lists.proofs.Bools.{byte-one}
+use Rattle.lists.proofs.Bools.{byte_one}
 use Rattle.outline.specs.Outline.{size, records, locked}
-use Rattle.diversity.specs.Diversity.{chosen, cost, chosenTaxa}
-use Rattle.laws.specs.Locks.{locks, lockedSet}
-use Rattle.laws.proofs.Locks.{locked-set, locked-taxa}
-use Rattle.laws.proofs.Marks.{map-at}
-use Rattle.laws.proofs.More.{cost-alike}
+use Rattle.diversity.specs.Diversity.{chosen, cost, chosen_taxa}
+use Rattle.laws.specs.Locks.{locks, locked_set}
+use Rattle.laws.proofs.Locks.{locked_is_set, locked_taxa}
+use Rattle.laws.proofs.Marks.{map_at}
+use Rattle.laws.proofs.More.{cost_alike}
 use Rattle.measures.specs.Inner.{blank}
-use Rattle.outline.specs.Rules.{mostRecords}
+use Rattle.outline.specs.Rules.{most_records}
 
-pub locked-long : (o : List ℕ) → length (lockedSet o) ≡ size o
-locked-long o = (locked-set o).whole
+pub locked_long : (o : List ℕ) → length (locked_set o) ≡ size o
+locked_long o = (locked_is_set o).whole
 
-pub locked-at : (o : List ℕ) (i : ℕ) → i < size o → {b : Bool} → b ≡ locked o (i + 1) → bool_byte b ≡ get_or (lockedSet o) i 0
-unfolding lockedSet records
-locked-at o i h {b} e = byte-one b ∙ ap one (e ∙ ap (locked o) (omega arith)) ∙ sym (map-at (λ r. one (locked o r)) 1 (size o) i h)
+pub locked_at : (o : List ℕ) (i : ℕ) → i < size o → {b : Bool} → b ≡ locked o (i + 1) → bool_byte b ≡ get_or (locked_set o) i 0
+unfolding locked_set records
+locked_at o i h {b} e = byte_one b ∙ ap one (e ∙ ap (locked o) (omega arith)) ∙ sym (map_at (λ r. one (locked o r)) 1 (size o) i h)
 
 -- zeros after a list read as nothing
-pub zeros-at : (n i : ℕ) → ◌≡◌ {A = ℕ} (get_or (replicate n 0) i 0) 0
-zeros-at zero i = refl
-zeros-at (suc n) zero = refl
-zeros-at (suc n) (suc i) = zeros-at n i
+pub zeros_at : (n i : ℕ) → ◌≡◌ {A = ℕ} (get_or (replicate n 0) i 0) 0
+zeros_at zero i = refl
+zeros_at (suc n) zero = refl
+zeros_at (suc n) (suc i) = zeros_at n i
 
-then-zeros : (xs ys : List ℕ) → ((i : ℕ) → get_or ys i 0 ≡ 0) → (i : ℕ) → get_or (xs ++ ys) i 0 ≡ get_or xs i 0
-then-zeros [] ys h i = h i
-then-zeros (x ∷ xs) ys h zero = refl
-then-zeros (x ∷ xs) ys h (suc i) = then-zeros xs ys h i
+then_zeros : (xs ys : List ℕ) → ((i : ℕ) → get_or ys i 0 ≡ 0) → (i : ℕ) → get_or (xs ++ ys) i 0 ≡ get_or xs i 0
+then_zeros [] ys h i = h i
+then_zeros (x ∷ xs) ys h zero = refl
+then_zeros (x ∷ xs) ys h (suc i) = then_zeros xs ys h i
 
-over-blank : (s : List ℕ) (r : ℕ) → chosen (over s blank) r ≡ chosen s r
+over_blank : (s : List ℕ) (r : ℕ) → chosen (over s blank) r ≡ chosen s r
 unfolding over chosen blank
-over-blank s r =
+over_blank s r =
     ap (λ k. eqb k 1)
-    (then-zeros s (drop (length s) (replicate mostRecords 0)) (λ i. get_or-drop (length s) (replicate mostRecords 0) i 0 ∙ zeros-at mostRecords (length s + i)) (r - 1))
+    (then_zeros s (drop (length s) (replicate most_records 0)) (λ i. get_or-drop (length s) (replicate most_records 0) i 0 ∙ zeros_at most_records (length s + i)) (r - 1))
 
 -- so their number and their cost are those of the locked taxa
-pub blank-taxa : (o : List ℕ) → chosenTaxa o (over (lockedSet o) blank) ≡ locks o
-unfolding chosenTaxa
-blank-taxa o = ap (λ p. total (λ r. one (p r)) (records o)) (fun_ext (over-blank (lockedSet o))) ∙ locked-taxa o
+pub blank_taxa : (o : List ℕ) → chosen_taxa o (over (locked_set o) blank) ≡ locks o
+unfolding chosen_taxa
+blank_taxa o = ap (λ p. total (λ r. one (p r)) (records o)) (fun_ext (over_blank (locked_set o))) ∙ locked_taxa o
 
-pub locked-cost : (o : List ℕ) → cost o (over (lockedSet o) blank) ≡ cost o (lockedSet o)
-locked-cost o = cost-alike o (over (lockedSet o) blank) (lockedSet o) (over-blank (lockedSet o))
+pub locked_cost : (o : List ℕ) → cost o (over (locked_set o) blank) ≡ cost o (locked_set o)
+locked_cost o = cost_alike o (over (locked_set o) blank) (locked_set o) (over_blank (locked_set o))

@@ -4,9 +4,9 @@ ghost use Rattle.lists.specs.Lists.{over};
 ghost use Rattle.outline.specs.Outline.{size};
 ghost use Rattle.outline.specs.WellFormed.{WellFormed};
 ghost use Rattle.diversity.specs.Diversity.{cost};
-ghost use Rattle.laws.specs.Locks.{locks, lockedSet};
+ghost use Rattle.laws.specs.Locks.{locks, locked_set};
 ghost use Rattle.measures.specs.Inner.{blank};
-ghost use Rattle.outline.specs.Rules.{mostRecords};
+ghost use Rattle.outline.specs.Rules.{most_records};
 
 use super::marks::{marked, measure};
 use outline::fields::is_locked;
@@ -15,7 +15,7 @@ use outline::limits::MOST_RECORDS;
 // Marks them, and no other record; what is past the records is unchanged.
 pub fn mark_locked(o: &[u8], marks: &mut [u8])
     requires { size o.now ≤ length marks.old }
-    ensures { marks.new ≡ over (lockedSet o.now) marks.old }
+    ensures { marks.new ≡ over (locked_set o.now) marks.old }
 {
     let n = o.len() / 16;
     let mut i = 0;
@@ -27,8 +27,8 @@ pub fn mark_locked(o: &[u8], marks: &mut [u8])
 
 // Their marks.
 fn lock_marks(o: &[u8]) -> [u8; MOST_RECORDS]
-    requires { size o.now ≤ mostRecords }
-    ensures { result ≡ over (lockedSet o.now) blank }
+    requires { size o.now ≤ most_records }
+    ensures { result ≡ over (locked_set o.now) blank }
 {
     let mut marks = [0; MOST_RECORDS];
     mark_locked(o, &mut marks);
@@ -48,7 +48,7 @@ pub fn locks_of(o: &[u8]) -> u32
 // measured.
 pub fn locked_cost(o: &[u8]) -> u32
     requires { WellFormed o.now }
-    ensures { result ≡ cost o.now (lockedSet o.now) }
+    ensures { result ≡ cost o.now (locked_set o.now) }
 {
     if locks_of(o) == 0 {
         return 0;

@@ -6,14 +6,14 @@ use mathlib.Core.Bool.{Bool, true, false, ◌||◌, ◌&&◌, false≢true}
 use native.Mathlib.Omega.{arith}
 use lib.Dec.{eqb, leb}
 use borrow.Author.Tests.{ne_eqb, le-leb, leb-true}
-use Rattle.newick.specs.Grammar.{Digit, Blank, blank, tab, line-feed, carriage-return}
-use Rattle.newick.specs.Parsing.{signOf, digitSign, isDigit}
-use Rattle.lists.proofs.Bools.{both-true}
+use Rattle.newick.specs.Grammar.{Digit, Blank, blank, tab, line_feed, carriage_return}
+use Rattle.newick.specs.Parsing.{sign_of, digit_sign, is_digit}
+use Rattle.lists.proofs.Bools.{both_true}
 use Rattle.newick.specs.declared.sign.Sign.{Sign}
 
-pub sign-digit : {b : ℕ} → 48 ≤ b → b ≤ 57 → signOf b ≡ Sign.Digit
-unfolding signOf
-sign-digit {b} l u =
+pub sign_digit : {b : ℕ} → 48 ≤ b → b ≤ 57 → sign_of b ≡ Sign.Digit
+unfolding sign_of
+sign_digit {b} l u =
     rw (
       ne_eqb b 40 (λ e. omega arith),
       ne_eqb b 41 (λ e. omega arith),
@@ -25,40 +25,40 @@ sign-digit {b} l u =
     )
 
 -- the four blanks
-pub sign-blank : {b : ℕ} → Blank b → signOf b ≡ Sign.Blank
-unfolding signOf
-sign-blank blank = refl
-sign-blank tab = refl
-sign-blank line-feed = refl
-sign-blank carriage-return = refl
+pub sign_blank : {b : ℕ} → Blank b → sign_of b ≡ Sign.Blank
+unfolding sign_of
+sign_blank blank = refl
+sign_blank tab = refl
+sign_blank line_feed = refl
+sign_blank carriage_return = refl
 
 -- a byte of the class of digits is a digit
-no-digit-if : (t : Bool) (a b : Sign) → digitSign a ≡ false → digitSign b ≡ false → digitSign (if t then a else b) ≡ false
-no-digit-if true a b p q = p
-no-digit-if false a b p q = q
+no_digit_if : (t : Bool) (a b : Sign) → digit_sign a ≡ false → digit_sign b ≡ false → digit_sign (if t then a else b) ≡ false
+no_digit_if true a b p q = p
+no_digit_if false a b p q = q
 
-no-digit-sign : (b : ℕ) → (leb 48 b && leb b 57) ≡ false → isDigit b ≡ false
-unfolding signOf
-no-digit-sign b e =
-    no-digit-if (eqb b 40) _ _ refl
-    (no-digit-if (eqb b 41) _ _ refl
-    (no-digit-if (eqb b 44) _ _ refl
-    (no-digit-if (eqb b 58) _ _ refl
-    (no-digit-if (eqb b 59) _ _ refl
-    (rw e (no-digit-if (eqb b 32 || (eqb b 9 || (eqb b 10 || eqb b 13))) _ _ refl refl))))))
+no_digit_sign : (b : ℕ) → (leb 48 b && leb b 57) ≡ false → is_digit b ≡ false
+unfolding sign_of
+no_digit_sign b e =
+    no_digit_if (eqb b 40) _ _ refl
+    (no_digit_if (eqb b 41) _ _ refl
+    (no_digit_if (eqb b 44) _ _ refl
+    (no_digit_if (eqb b 58) _ _ refl
+    (no_digit_if (eqb b 59) _ _ refl
+    (rw e (no_digit_if (eqb b 32 || (eqb b 9 || (eqb b 10 || eqb b 13))) _ _ refl refl))))))
 
-pub digit-test : (b : ℕ) → (leb 48 b && leb b 57) ≡ isDigit b
-digit-test b = go (leb 48 b && leb b 57) refl
+pub digit_test : (b : ℕ) → (leb 48 b && leb b 57) ≡ is_digit b
+digit_test b = go (leb 48 b && leb b 57) refl
   where
-    go : (t : Bool) → (leb 48 b && leb b 57) ≡ t → t ≡ isDigit b
+    go : (t : Bool) → (leb 48 b && leb b 57) ≡ t → t ≡ is_digit b
     go true e =
-        let both = both-true (leb 48 b) (leb b 57) e in
-        sym (ap digitSign (sign-digit (leb-true 48 b both.0) (leb-true b 57 both.1)))
-    go false e = sym (no-digit-sign b e)
+        let both = both_true (leb 48 b) (leb b 57) e in
+        sym (ap digit_sign (sign_digit (leb-true 48 b both.0) (leb-true b 57 both.1)))
+    go false e = sym (no_digit_sign b e)
 
-pub digit-range : (b : ℕ) → isDigit b ≡ true → Digit b
-digit-range b h = go (leb 48 b && leb b 57) refl
+pub digit_range : (b : ℕ) → is_digit b ≡ true → Digit b
+digit_range b h = go (leb 48 b && leb b 57) refl
   where
     go : (t : Bool) → (leb 48 b && leb b 57) ≡ t → Digit b
-    go true e = let both = both-true (leb 48 b) (leb b 57) e in record { low = leb-true 48 b both.0; high = leb-true b 57 both.1 }
-    go false e = absurd (false≢true (sym (no-digit-sign b e) ∙ h))
+    go true e = let both = both_true (leb 48 b) (leb b 57) e in record { low = leb-true 48 b both.0; high = leb-true b 57 both.1 }
+    go false e = absurd (false≢true (sym (no_digit_sign b e) ∙ h))

@@ -1,8 +1,8 @@
 -- What the code and the arguments on texts speak of: tokens, the plates of an outline, and trees whose numbers can be spelled.
 use Rattle.std.specs.Prelude.{if◌then◌else◌, ℕ, ◌+◌, ◌≤◌, ◌<◌, ◌≡◌, true, List, [], ◌∷◌, length, get_or, drop}
-use Rattle.outline.specs.Outline.{records, plate, isTaxon}
-use Rattle.newick.specs.Grammar.{Kind, part, chain, Tree, taxon, group, last, more, mostNumber}
-use Rattle.newick.specs.Parsing.{tokensOf, isDigit}
+use Rattle.outline.specs.Outline.{records, plate, is_taxon}
+use Rattle.newick.specs.Grammar.{Kind, part, chain, Tree, taxon, group, last, more, most_number}
+use Rattle.newick.specs.Parsing.{tokens_of, is_digit}
 use Rattle.newick.specs.declared.sign.Sign.{Sign}
 use Rattle.newick.specs.declared.token.Token.{Token}
 
@@ -11,22 +11,22 @@ use Rattle.newick.specs.declared.token.Token.{Token}
 -- a digit stands at a place
 pub record AtDigit (text : List ℕ) (at : ℕ) : Type 0 where
   pub inside : at < length text
-  pub digit : isDigit (get_or text at 0) ≡ true
+  pub digit : is_digit (get_or text at 0) ≡ true
 
 -- the token of a sign that is one by itself
-abbrev pub tokenOf : Sign → Token
-tokenOf Sign.Open = Token.Open
-tokenOf Sign.Close = Token.Close
-tokenOf Sign.Comma = Token.Comma
-tokenOf Sign.Colon = Token.Colon
-tokenOf Sign.Semicolon = Token.Semicolon
-tokenOf Sign.Digit = Token.Other
-tokenOf Sign.Blank = Token.Other
-tokenOf Sign.Other = Token.Other
+abbrev pub token_of : Sign → Token
+token_of Sign.Open = Token.Open
+token_of Sign.Close = Token.Close
+token_of Sign.Comma = Token.Comma
+token_of Sign.Colon = Token.Colon
+token_of Sign.Semicolon = Token.Semicolon
+token_of Sign.Digit = Token.Other
+token_of Sign.Blank = Token.Other
+token_of Sign.Other = Token.Other
 
 -- the tokens of what is left of a text
 abbrev pub ahead : List ℕ → ℕ → List Token
-ahead text at = tokensOf (drop at text)
+ahead text at = tokens_of (drop at text)
 
 -- a token before others; at the end there is none
 abbrev pub before : Token → List Token → List Token
@@ -61,19 +61,19 @@ pub record Met (text : List ℕ) (at : ℕ) (token : Token) (end : ℕ) : Type 0
 -- ---- plates
 
 -- the plates of the taxa among records
-unfoldable pub platesIn : List ℕ → List ℕ → List ℕ
-platesIn o [] = []
-platesIn o (r ∷ rs) = if isTaxon o r then plate o r ∷ platesIn o rs else platesIn o rs
+unfoldable pub plates_in : List ℕ → List ℕ → List ℕ
+plates_in o [] = []
+plates_in o (r ∷ rs) = if is_taxon o r then plate o r ∷ plates_in o rs else plates_in o rs
 
 -- the plates of an outline's taxa
-abbrev pub platesOf : List ℕ → List ℕ
-platesOf o = platesIn o (records o)
+abbrev pub plates_of : List ℕ → List ℕ
+plates_of o = plates_in o (records o)
 
 -- ---- ranges
 
 -- every plate and length of a tree has at most nine digits
 pub data InRange : (κ : Kind) → Tree κ → Type 0 where
-  taxon-in : {p l : ℕ} → p ≤ mostNumber → l ≤ mostNumber → InRange part (taxon p l)
-  group-in : {ms : Tree chain} {l : ℕ} → InRange chain ms → l ≤ mostNumber → InRange part (group ms l)
-  last-in : {t : Tree part} → InRange part t → InRange chain (last t)
-  more-in : {t : Tree part} {ms : Tree chain} → InRange part t → InRange chain ms → InRange chain (more t ms)
+  taxon_in : {p l : ℕ} → p ≤ most_number → l ≤ most_number → InRange part (taxon p l)
+  group_in : {ms : Tree chain} {l : ℕ} → InRange chain ms → l ≤ most_number → InRange part (group ms l)
+  last_in : {t : Tree part} → InRange part t → InRange chain (last t)
+  more_in : {t : Tree part} {ms : Tree chain} → InRange part t → InRange chain ms → InRange chain (more t ms)

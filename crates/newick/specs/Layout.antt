@@ -1,6 +1,6 @@
 -- A tree as an outline: its records in the order in which their parts begin.
 use Rattle.std.specs.Prelude.{ℕ, ◌+◌, List, [], ◌∷◌, ◌++◌}
-use Rattle.outline.specs.Outline.{recordBytes}
+use Rattle.outline.specs.Outline.{record_bytes}
 use Rattle.newick.specs.Grammar.{Kind, part, Tree, taxon, group, last, more}
 
 -- how many records a tree has
@@ -21,8 +21,8 @@ plates (more t ms) = plates t ++ plates ms
 -- numbered as its part begins, so that a group's first member is the record after it, and the next of a member is the record of
 -- the part after the comma
 unfoldable pub rows : (ℕ → ℕ) → {κ : Kind} → Tree κ → ℕ → ℕ → List ℕ
-rows price (taxon p l) k next = recordBytes next 0 l (price p) p
-rows price (group ms l) k next = recordBytes next (k + 1) l 0 0 ++ rows price ms (k + 1) 0
+rows price (taxon p l) k next = record_bytes next 0 l (price p) p
+rows price (group ms l) k next = record_bytes next (k + 1) l 0 0 ++ rows price ms (k + 1) 0
 rows price (last t) k next = rows price t k next
 rows price (more t ms) k next = rows price t k (k + count t) ++ rows price ms (k + count t) next
 

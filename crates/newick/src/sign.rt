@@ -1,6 +1,6 @@
 // The classes of bytes, by which the reader decides.
 ghost use Rattle.std.specs.Prelude.{◌≡◌};
-ghost use Rattle.newick.specs.Parsing.{signOf};
+ghost use Rattle.newick.specs.Parsing.{sign_of};
 
 // What a byte is in a text.
 #[derive(Drop)]
@@ -16,9 +16,9 @@ pub enum Sign {
 }
 
 // The class of a byte.
-#[tactic(auto, unfolding(crate::specs::Parsing::signOf))]
+#[tactic(auto, unfolding(crate::specs::Parsing::sign_of))]
 pub fn sign_of(byte: u8) -> Sign
-    ensures { result ≡ signOf byte }
+    ensures { result ≡ sign_of byte }
 {
     match byte {
         b'(' => Sign::Open,

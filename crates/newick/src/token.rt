@@ -1,7 +1,7 @@
 // The tokens of a text, one by one: a sign, or a number of 1 to 9 digits.
 ghost use Rattle.std.specs.Prelude.{◌≡◌, ◌≤◌, length};
-ghost use Rattle.newick.specs.Parsing.{isDigit};
-ghost use Rattle.newick.specs.Inner.{Met, AtDigit, tokenOf};
+ghost use Rattle.newick.specs.Parsing.{is_digit};
+ghost use Rattle.newick.specs.Inner.{Met, AtDigit, token_of};
 
 use super::sign::{Sign, sign_of};
 
@@ -30,7 +30,7 @@ pub struct Found {
 
 // Whether a byte is a digit.
 fn is_digit(byte: u8) -> bool
-    ensures { result ≡ isDigit byte }
+    ensures { result ≡ is_digit byte }
 {
     (b'0' <= byte) & (byte <= b'9')
 }
@@ -69,7 +69,7 @@ fn number_at(text: &[u8], at: usize) -> Found
 
 // The token of a sign that is one by itself.
 fn token_of(sign: Sign) -> Token
-    ensures { result ≡ tokenOf sign }
+    ensures { result ≡ token_of sign }
 {
     match sign {
         Sign::Open => Token::Open,

@@ -7,29 +7,29 @@ use native.Mathlib.Omega.{arith}
 use lib.ListN.{length}
 use lib.Dec.{eqb, ltb}
 use Rattle.refusals.specs.Refusals.{row}
-use Rattle.refusals.proofs.Placed.{Placed, row-placed, row-at-placed, then-placed}
+use Rattle.refusals.proofs.Placed.{Placed, row_placed, row_at_placed, then_placed}
 use Rattle.outline.specs.Outline.{size}
-use Rattle.outline.specs.Answer.{sizeRows, recordRows, checked}
-use Rattle.outline.proofs.WellFormed.{sizes-formed}
-use Rattle.outline.specs.Rules.{badField, badLink, taxa, isDuplicate, mostRecords, mostTaxa}
+use Rattle.outline.specs.Answer.{size_rows, record_rows, checked}
+use Rattle.outline.proofs.WellFormed.{sizes_formed}
+use Rattle.outline.specs.Rules.{bad_field, bad_link, taxa, is_duplicate, most_records, most_taxa}
 
 module _ (o : List ℕ) where
-  pub sizes-placed : Placed mostRecords (sizeRows o)
-  unfolding sizeRows
-  sizes-placed =
+  pub sizes_placed : Placed most_records (size_rows o)
+  unfolding size_rows
+  sizes_placed =
       let partial = eqb (length o) 0 || not (eqb (length o % 16) 0) in
-      let many = ltb mostRecords (size o) in
-      then-placed mostRecords (row 2 partial) (row 3 many) (row-placed mostRecords 2 partial (omega arith)) (λ _. row-placed mostRecords 3 many (omega arith))
+      let many = ltb most_records (size o) in
+      then_placed most_records (row 2 partial) (row 3 many) (row_placed most_records 2 partial (omega arith)) (λ _. row_placed most_records 3 many (omega arith))
 
-  pub records-placed : (sizeRows o).number ≡ 0 → Placed mostRecords (recordRows o)
-  unfolding sizeRows recordRows
-  records-placed z =
-      let (_, _, few) = sizes-formed o z in
-      let many = ltb mostTaxa (taxa o) in
-      then-placed mostRecords _ _ (row-at-placed mostRecords 5 (badField o) (size o) (omega arith) few)
-      (λ _. then-placed mostRecords _ _ (row-at-placed mostRecords 6 (badLink o) (size o) (omega arith) few)
-      (λ _. then-placed mostRecords (row 7 many) _ (row-placed mostRecords 7 many (omega arith)) (λ _. row-at-placed mostRecords 8 (isDuplicate o) (size o) (omega arith) few)))
+  pub records_placed : (size_rows o).number ≡ 0 → Placed most_records (record_rows o)
+  unfolding size_rows record_rows
+  records_placed z =
+      let (_, _, few) = sizes_formed o z in
+      let many = ltb most_taxa (taxa o) in
+      then_placed most_records _ _ (row_at_placed most_records 5 (bad_field o) (size o) (omega arith) few)
+      (λ _. then_placed most_records _ _ (row_at_placed most_records 6 (bad_link o) (size o) (omega arith) few)
+      (λ _. then_placed most_records (row 7 many) _ (row_placed most_records 7 many (omega arith)) (λ _. row_at_placed most_records 8 (is_duplicate o) (size o) (omega arith) few)))
 
-  pub checked-placed : Placed mostRecords (checked o)
+  pub checked_placed : Placed most_records (checked o)
   unfolding checked
-  checked-placed = then-placed mostRecords _ _ sizes-placed records-placed
+  checked_placed = then_placed most_records _ _ sizes_placed records_placed

@@ -40,24 +40,24 @@ abbrev pub price : List ℕ → ℕ → ℕ
 price o r = long o (16 * (r - 1) + 8)
 
 -- bytes 12 to 15: the plate field
-abbrev pub plateField : List ℕ → ℕ → ℕ
-plateField o r = long o (16 * (r - 1) + 12)
+abbrev pub plate_field : List ℕ → ℕ → ℕ
+plate_field o r = long o (16 * (r - 1) + 12)
 
 -- bit 31, which locks a taxon
-abbrev pub lockBit : ℕ
-lockBit = 2147483648
+abbrev pub lock_bit : ℕ
+lock_bit = 2147483648
 
 -- its lower 31 bits: the plate's number
 abbrev pub plate : List ℕ → ℕ → ℕ
-plate o r = plateField o r % lockBit
+plate o r = plate_field o r % lock_bit
 
 -- a first of 0 makes the record a taxon, otherwise it is a group
-abbrev pub isTaxon : List ℕ → ℕ → Bool
-isTaxon o r = eqb (first o r) 0
+abbrev pub is_taxon : List ℕ → ℕ → Bool
+is_taxon o r = eqb (first o r) 0
 
 -- bit 31 of a taxon's plate field locks it
 unfoldable pub locked : List ℕ → ℕ → Bool
-locked o r = isTaxon o r && eqb (plateField o r / lockBit % 2) 1
+locked o r = is_taxon o r && eqb (plate_field o r / lock_bit % 2) 1
 
 -- the k bytes of a number, least significant byte first
 unfoldable pub bytes : ℕ → ℕ → List ℕ
@@ -65,6 +65,6 @@ bytes zero n = []
 bytes (suc k) n = n % 256 ∷ bytes k (n / 256)
 
 -- the 16 bytes of a record with these fields
-unfoldable pub recordBytes : ℕ → ℕ → ℕ → ℕ → ℕ → List ℕ
-recordBytes next first branch price plate =
+unfoldable pub record_bytes : ℕ → ℕ → ℕ → ℕ → ℕ → List ℕ
+record_bytes next first branch price plate =
     bytes 2 next ++ (bytes 2 first ++ (bytes 4 branch ++ (bytes 4 price ++ bytes 4 plate)))

@@ -2,8 +2,8 @@
 ghost use Rattle.std.specs.Prelude.{◌≡◌, ◌≤◌};
 ghost use Rattle.refusals.specs.Refusals.{told};
 ghost use Rattle.outline.specs.Outline.{size};
-ghost use Rattle.outline.specs.Answer.{sizeRows, recordRows, checked};
-ghost use Rattle.outline.specs.Rules.{mostRecords};
+ghost use Rattle.outline.specs.Answer.{size_rows, record_rows, checked};
+ghost use Rattle.outline.specs.Rules.{most_records};
 
 use super::limits::{MOST_RECORDS, MOST_TAXA};
 use super::rules::{Rule, broken_at, count_links, taxa_of};
@@ -11,7 +11,7 @@ use refusals::verdict::{Refusal, Verdict};
 
 // Rows 2 and 3: whether an outline is whole records, and not too many.
 pub fn check_size(outline: &[u8]) -> Verdict
-    ensures { told result ≡ sizeRows outline.now }
+    ensures { told result ≡ size_rows outline.now }
 {
     let len = outline.len();
     if (len == 0) | (len % 16 != 0) {
@@ -25,8 +25,8 @@ pub fn check_size(outline: &[u8]) -> Verdict
 
 // Rows 5 to 8: whether the records keep every rule.
 pub fn check_records(outline: &[u8]) -> Verdict
-    requires { size outline.now ≤ mostRecords }
-    ensures { told result ≡ recordRows outline.now }
+    requires { size outline.now ≤ most_records }
+    ensures { told result ≡ record_rows outline.now }
 {
     let counts = count_links(outline);
     let field = broken_at(outline, &counts, Rule::Field);

@@ -1,6 +1,6 @@
 // The fields of an outline's records.
 ghost use Rattle.std.specs.Prelude.{◌≡◌, ◌+◌, ◌<◌, length};
-ghost use Rattle.outline.specs.Outline.{short, long, next, first, branch, price, plateField, plate, isTaxon, locked, IsRecord};
+ghost use Rattle.outline.specs.Outline.{short, long, next, first, branch, price, plate_field, plate, is_taxon, locked, IsRecord};
 
 // Bit 31 of a plate field, the lock; the bits below it are the plate's number.
 pub const LOCK: u32 = 2147483648;
@@ -56,7 +56,7 @@ pub fn price_of(o: &[u8], r: usize) -> u32
 // The plate field, with the lock.
 pub fn plate_field_of(o: &[u8], r: usize) -> u32
     requires { IsRecord o.now r }
-    ensures { result ≡ plateField o.now r }
+    ensures { result ≡ plate_field o.now r }
 {
     long_at(o, 16 * (r - 1) + 12)
 }
@@ -72,7 +72,7 @@ pub fn plate_of(o: &[u8], r: usize) -> u32
 // Whether the record is a taxon.
 pub fn is_taxon(o: &[u8], r: usize) -> bool
     requires { IsRecord o.now r }
-    ensures { result ≡ isTaxon o.now r }
+    ensures { result ≡ is_taxon o.now r }
 {
     first_of(o, r) == 0
 }

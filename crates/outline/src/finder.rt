@@ -1,6 +1,6 @@
 // Finding the record of a plate.
 ghost use Rattle.std.specs.Prelude.{◌≡◌};
-ghost use Rattle.outline.specs.Answer.{foundAt, found};
+ghost use Rattle.outline.specs.Answer.{found_at, found};
 
 use super::checker::check;
 use super::rules::holder_of;
@@ -8,7 +8,7 @@ use refusals::verdict::Verdict;
 
 // The record of the taxon of a plate; 0 if the check refuses the outline or no taxon has the plate.
 pub fn find_record(outline: &[u8], plate: u32) -> usize
-    ensures { result ≡ foundAt outline.now plate }
+    ensures { result ≡ found_at outline.now plate }
 {
     match check(outline) {
         Verdict::Refused(_) => 0,

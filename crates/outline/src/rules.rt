@@ -3,7 +3,7 @@ ghost use Rattle.std.specs.Prelude.{◌≡◌, ◌≤◌, ◌<◌, get_or};
 ghost use Rattle.lists.specs.Lists.{from, lowest};
 ghost use Rattle.outline.specs.Inner.{breaks, counted, Tally};
 ghost use Rattle.outline.specs.Outline.{size, IsRecord};
-ghost use Rattle.outline.specs.Rules.{badField, stray, badLink, taxa, hasPlate, isDuplicate, mostRecords};
+ghost use Rattle.outline.specs.Rules.{bad_field, stray, bad_link, taxa, has_plate, is_duplicate, most_records};
 
 use super::fields::{branch_of, first_of, is_taxon, next_of, plate_field_of, plate_of, price_of};
 use super::limits::{MOST_LENGTH, MOST_PRICE, NUMBERS};
@@ -19,7 +19,7 @@ pub enum Rule {
 // Whether the length, the price or the plate is outside its range.
 fn bad_field(o: &[u8], r: usize) -> bool
     requires { IsRecord o.now r }
-    ensures { result ≡ badField o.now r }
+    ensures { result ≡ bad_field o.now r }
 {
     let long = MOST_LENGTH < branch_of(o, r);
     let dear = MOST_PRICE < price_of(o, r);
@@ -49,7 +49,7 @@ fn count_link(counts: &mut [u16; NUMBERS], link: usize)
 
 // How many link fields hold each record number: one pass for all records.
 pub fn count_links(o: &[u8]) -> [u16; NUMBERS]
-    requires { size o.now ≤ mostRecords }
+    requires { size o.now ≤ most_records }
     ensures { Tally o.now result }
 {
     let n = o.len() / 16;
@@ -67,7 +67,7 @@ pub fn count_links(o: &[u8]) -> [u16; NUMBERS]
 fn bad_link(o: &[u8], counts: &[u16; NUMBERS], r: usize) -> bool
     requires is_record { IsRecord o.now r }
     requires tally { Tally o.now counts.now }
-    ensures { result ≡ badLink o.now r }
+    ensures { result ≡ bad_link o.now r }
 {
     let next = next_of(o, r);
     let stray = is_stray(o, r, next) | is_stray(o, r, first_of(o, r));
@@ -95,7 +95,7 @@ pub fn taxa_of(o: &[u8]) -> usize
 // Whether record r is the taxon of a plate.
 fn has_plate(o: &[u8], plate: u32, r: usize) -> bool
     requires { IsRecord o.now r }
-    ensures { result ≡ hasPlate o.now plate r }
+    ensures { result ≡ has_plate o.now plate r }
 {
     if plate_of(o, r) != plate {
         return false;
@@ -106,7 +106,7 @@ fn has_plate(o: &[u8], plate: u32, r: usize) -> bool
 // The lowest of the first n records that is the taxon of a plate, 0 if none is.
 pub fn holder_of(o: &[u8], plate: u32, n: usize) -> usize
     requires { n ≤ size o.now }
-    ensures { result ≡ lowest (hasPlate o.now plate) (from 1 n) }
+    ensures { result ≡ lowest (has_plate o.now plate) (from 1 n) }
 {
     let mut r = 1;
     while r <= n {
@@ -121,7 +121,7 @@ pub fn holder_of(o: &[u8], plate: u32, n: usize) -> usize
 // Whether the plate of record r is already at an earlier taxon.
 fn is_duplicate(o: &[u8], r: usize) -> bool
     requires { IsRecord o.now r }
-    ensures { result ≡ isDuplicate o.now r }
+    ensures { result ≡ is_duplicate o.now r }
 {
     holder_of(o, plate_of(o, r), r - 1) != 0
 }

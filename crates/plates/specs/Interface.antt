@@ -11,61 +11,61 @@ use Rattle.view.specs.Answer as view
 
 -- what a function gives with its `answer`: that has so many numbers and no more, the first of them is given, and they answer the
 -- call
-pub record Given {Told : Type 0} (many : ℕ) (toldIn : List ℕ → Told) (Answered : Told → Type 0) (number : ℕ) (answer : List ℕ) : Type 0 where
-  pub answer-long : length answer ≡ many
-  pub number-given : number ≡ get_or answer 0 0
-  pub answered : Answered (toldIn answer)
+pub record Given {Told : Type 0} (many : ℕ) (told_in : List ℕ → Told) (Answered : Told → Type 0) (number : ℕ) (answer : List ℕ) : Type 0 where
+  pub answer_long : length answer ≡ many
+  pub number_given : number ≡ get_or answer 0 0
+  pub answered : Answered (told_in answer)
 
 -- a reply in an answer: number and place are its first two numbers, the figures those that follow
-abbrev pub replyIn : {Figures : Type 0} → List ℕ → Figures → Reply Figures
-replyIn answer figures = record { number = get_or answer 0 0; place = get_or answer 1 0; figures = figures }
+abbrev pub reply_in : {Figures : Type 0} → List ℕ → Figures → Reply Figures
+reply_in answer figures = record { number = get_or answer 0 0; place = get_or answer 1 0; figures = figures }
 
 -- the six numbers of choosing
-abbrev pub chosenIn : List ℕ → Reply choose.Figures
-chosenIn answer =
-    replyIn answer
+abbrev pub chosen_in : List ℕ → Reply choose.Figures
+chosen_in answer =
+    reply_in answer
     (record { diversity = get_or answer 2 0; cost = get_or answer 3 0; taxa = get_or answer 4 0; spare = get_or answer 5 0 })
 
 -- a call is answered by them as `choose` answers it
 abbrev pub Chosen : choose.Call → ℕ → List ℕ → List ℕ → List ℕ → List ℕ → Type 0
-Chosen c number answer marks curve work = Given 6 chosenIn (λ r. choose.Answered c r marks curve work) number answer
+Chosen c number answer marks curve work = Given 6 chosen_in (λ r. choose.Answered c r marks curve work) number answer
 
 -- the five numbers of a quick choice, with the ceiling that is written beside them
-abbrev pub quicklyChosenIn : ℕ → List ℕ → Reply quick.Figures
-quicklyChosenIn ceiling answer = replyIn answer (quick.reported (get_or answer 2 0) (get_or answer 3 0) (get_or answer 4 0) ceiling)
+abbrev pub quickly_chosen_in : ℕ → List ℕ → Reply quick.Figures
+quickly_chosen_in ceiling answer = reply_in answer (quick.reported (get_or answer 2 0) (get_or answer 3 0) (get_or answer 4 0) ceiling)
 
 -- a call is answered by them as `quick` answers it
 abbrev pub QuicklyChosen : quick.Call → ℕ → List ℕ → ℕ → List ℕ → Type 0
-QuicklyChosen c number answer ceiling marks = Given 5 (quicklyChosenIn ceiling) (λ r. quick.Answered c r marks) number answer
+QuicklyChosen c number answer ceiling marks = Given 5 (quickly_chosen_in ceiling) (λ r. quick.Answered c r marks) number answer
 
 -- the five numbers of a sheet
-abbrev pub listedIn : List ℕ → Reply sheet.Figures
-listedIn answer = replyIn answer (sheet.sums (get_or answer 2 0) (get_or answer 3 0) (get_or answer 4 0))
+abbrev pub listed_in : List ℕ → Reply sheet.Figures
+listed_in answer = reply_in answer (sheet.sums (get_or answer 2 0) (get_or answer 3 0) (get_or answer 4 0))
 
 -- a call is answered by them as `sheet` answers it
 abbrev pub SheetListed : sheet.Call → ℕ → List ℕ → List ℕ → Type 0
-SheetListed c number answer lent = Given 5 listedIn (λ r. sheet.Answered c r lent) number answer
+SheetListed c number answer lent = Given 5 listed_in (λ r. sheet.Answered c r lent) number answer
 
 -- the three numbers of reading
-abbrev pub readIn : List ℕ → Reply read.Figures
-readIn answer = replyIn answer (read.counted (get_or answer 2 0))
+abbrev pub read_in : List ℕ → Reply read.Figures
+read_in answer = reply_in answer (read.counted (get_or answer 2 0))
 
 -- a call is answered by them as `read` answers it
 abbrev pub TextRead : read.Call → ℕ → List ℕ → List ℕ → Type 0
-TextRead c number answer outline = Given 3 readIn (λ r. read.Answered c r outline) number answer
+TextRead c number answer outline = Given 3 read_in (λ r. read.Answered c r outline) number answer
 
 -- the four numbers of writing
-abbrev pub writtenIn : List ℕ → Reply write.Figures
-writtenIn answer = replyIn answer (write.counts (get_or answer 2 0) (get_or answer 3 0))
+abbrev pub written_in : List ℕ → Reply write.Figures
+written_in answer = reply_in answer (write.counts (get_or answer 2 0) (get_or answer 3 0))
 
 -- a call is answered by them as `write` answers it
 abbrev pub TextWritten : write.Call → ℕ → List ℕ → List ℕ → List ℕ → Type 0
-TextWritten c number answer text pairs = Given 4 writtenIn (λ r. write.Answered c r text pairs) number answer
+TextWritten c number answer text pairs = Given 4 written_in (λ r. write.Answered c r text pairs) number answer
 
 -- the two numbers of a view
-abbrev pub rulingIn : List ℕ → Ruling
-rulingIn answer = ruling (get_or answer 0 0) (get_or answer 1 0)
+abbrev pub ruling_in : List ℕ → Ruling
+ruling_in answer = ruling (get_or answer 0 0) (get_or answer 1 0)
 
--- a call is answered by them as `view_house` answers it, where what is shown is `houseView`, and as `view_buyer`, where it is `buyerView`
+-- a call is answered by them as `view_house` answers it, where what is shown is `house_view`, and as `view_buyer`, where it is `buyer_view`
 abbrev pub Viewed : (List ℕ → List ℕ) → view.Call → ℕ → List ℕ → List ℕ → Type 0
-Viewed shown c number answer lent = Given 2 rulingIn (λ t. view.Answered shown c t lent) number answer
+Viewed shown c number answer lent = Given 2 ruling_in (λ t. view.Answered shown c t lent) number answer

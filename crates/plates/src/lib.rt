@@ -5,16 +5,16 @@
 
 ghost use Rattle.std.specs.Prelude.{◌≡◌, ◌≤◌};
 ghost use Rattle.refusals.specs.Refusals.{ruling, told};
-ghost use Rattle.outline.specs.Answer.{checked, foundAt};
+ghost use Rattle.outline.specs.Answer.{checked, found_at};
 ghost use Rattle.reading.specs.Answer.{call as reading};
 ghost use Rattle.writing.specs.Answer.{call as writing};
 ghost use Rattle.choice.specs.Answer.{call};
 ghost use Rattle.quick.specs.Answer.{call as picking};
 ghost use Rattle.sheet.specs.Answer.{call as listing};
 ghost use Rattle.view.specs.Answer.{call as viewing};
-ghost use Rattle.view.specs.View.{houseView, buyerView};
-ghost use Rattle.plates.specs.Interface.{Given, Chosen, QuicklyChosen, SheetListed, TextRead, TextWritten, rulingIn, Viewed};
-ghost use Rattle.outline.specs.Rules.{mostRecords};
+ghost use Rattle.view.specs.View.{house_view, buyer_view};
+ghost use Rattle.plates.specs.Interface.{Given, Chosen, QuicklyChosen, SheetListed, TextRead, TextWritten, ruling_in, Viewed};
+ghost use Rattle.outline.specs.Rules.{most_records};
 
 use choice::{Answer, choose};
 use outline::{check, find_record};
@@ -45,7 +45,7 @@ pub extern "C" fn plates_check(outline: &[u8], place: &mut u32) -> u32
 // The record of the taxon of a plate; 0 where the finder's part is empty.
 #[unsafe(no_mangle)]
 pub extern "C" fn plates_find(outline: &[u8], plate: u32) -> u32
-    ensures { result ≡ foundAt outline.now plate }
+    ensures { result ≡ found_at outline.now plate }
 {
     find_record(outline, plate) as u32
 }
@@ -202,8 +202,8 @@ pub extern "C" fn plates_write(
 
 // Writes the number and the place of a verdict, and gives the number.
 fn tell(verdict: Verdict, answer: &mut [u32; 2]) -> u32
-    requires { (told verdict).place ≤ mostRecords }
-    ensures { Given 2 rulingIn (λ t. t ≡ told verdict) result answer.new }
+    requires { (told verdict).place ≤ most_records }
+    ensures { Given 2 ruling_in (λ t. t ≡ told verdict) result answer.new }
 {
     match verdict {
         Verdict::Accepted => {
@@ -221,7 +221,7 @@ fn tell(verdict: Verdict, answer: &mut [u32; 2]) -> u32
 // Shows an outline to a house reader, and writes number and place; the number is given as well.
 #[unsafe(no_mangle)]
 pub extern "C" fn plates_view_house(outline: &[u8], view: &mut [u8], answer: &mut [u32; 2]) -> u32
-    ensures { Viewed houseView (viewing outline.now view.old) result answer.new view.new }
+    ensures { Viewed house_view (viewing outline.now view.old) result answer.new view.new }
 {
     let verdict = view_house(outline, view);
     tell(verdict, answer)
@@ -230,7 +230,7 @@ pub extern "C" fn plates_view_house(outline: &[u8], view: &mut [u8], answer: &mu
 // Shows an outline to a buyer's reader, without prices and locks, and writes number and place; the number is given as well.
 #[unsafe(no_mangle)]
 pub extern "C" fn plates_view_buyer(outline: &[u8], view: &mut [u8], answer: &mut [u32; 2]) -> u32
-    ensures { Viewed buyerView (viewing outline.now view.old) result answer.new view.new }
+    ensures { Viewed buyer_view (viewing outline.now view.old) result answer.new view.new }
 {
     let verdict = view_buyer(outline, view);
     tell(verdict, answer)

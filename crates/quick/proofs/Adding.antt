@@ -10,41 +10,41 @@ use lib.Seq.{get_or-set_same, get_or-set_other}
 use borrow.Author.Tests.{eqb-true, eqb-false}
 use Rattle.lists.specs.Lists.{one}
 use Rattle.outline.specs.Inner.{numbers}
-use Rattle.outline.specs.Outline.{branch, price, isTaxon}
+use Rattle.outline.specs.Outline.{branch, price, is_taxon}
 use Rattle.outline.specs.WellFormed.{WellFormed}
 use Rattle.diversity.specs.Diversity.{chosen, within}
-use Rattle.laws.proofs.Sums.{one-true, if-zero}
-use Rattle.measures.proofs.Locking.{zeros-at}
-use Rattle.quick.specs.Quick.{withTaxon, added, addedCost, canPick, inHand}
-use Rattle.quick.specs.Inner.{GainsUpTo, SumsUpTo, NoSums, SumsLong, CanAdd, AddedUp, Known, LookAt, ceilingPart}
+use Rattle.laws.proofs.Sums.{one_true, if_zero}
+use Rattle.measures.proofs.Locking.{zeros_at}
+use Rattle.quick.specs.Quick.{with_taxon, added, added_cost, can_pick, in_hand}
+use Rattle.quick.specs.Inner.{GainsUpTo, SumsUpTo, NoSums, SumsLong, CanAdd, AddedUp, Known, LookAt, ceiling_part}
 use Rattle.quick.specs.declared.sums.Sums.{Sums}
-use Rattle.quick.proofs.Along.{gain-held, gain-up}
-use Rattle.quick.proofs.Bounds.{added-bound, cost-bound}
-use Rattle.quick.proofs.Taxon.{added-sum, added-cost-sum, cost-with}
-use Rattle.quick.proofs.Upwards.{parents-earlier}
+use Rattle.quick.proofs.Along.{gain_held, gain_up}
+use Rattle.quick.proofs.Bounds.{added_bound, cost_bound}
+use Rattle.quick.proofs.Taxon.{added_sum, added_cost_sum, cost_with}
+use Rattle.quick.proofs.Upwards.{parents_earlier}
 
 -- ---- one table
 module _ {gain : ℕ → ℕ} where
-  gains-start : GainsUpTo gain 1 (replicate numbers 0)
-  gains-start = record {
+  gains_start : GainsUpTo gain 1 (replicate numbers 0)
+  gains_start = record {
     long = length-replicate {A = ℕ} numbers 0;
-    none = zeros-at numbers 0;
+    none = zeros_at numbers 0;
     before = λ q l u. absurd (omega arith);
-    rest = λ q l. zeros-at numbers q;
+    rest = λ q l. zeros_at numbers q;
   }
 
   module _ {r : ℕ} {table : List ℕ} (g : GainsUpTo gain r table) where
     -- record r adds nothing
-    gains-pass : gain r ≡ 0 → GainsUpTo gain (r + 1) table
-    gains-pass z = record { long = g.long; none = g.none; before = λ q l u. go q l u (eqb q r) refl; rest = λ q l. g.rest q (omega arith) }
+    gains_pass : gain r ≡ 0 → GainsUpTo gain (r + 1) table
+    gains_pass z = record { long = g.long; none = g.none; before = λ q l u. go q l u (eqb q r) refl; rest = λ q l. g.rest q (omega arith) }
       where
         go : (q : ℕ) → 1 ≤ q → q < r + 1 → (b : Bool) → eqb q r ≡ b → get_or table q 0 ≡ gain q
         go q l u true e = let same = eqb-true q r e in g.rest q (omega arith) ∙ sym (ap gain same ∙ z)
         go q l u false e = let other = eqb-false q r e in g.before q l (omega arith)
 
     -- record r adds v
-    gains-add : {v : ℕ} → 1 ≤ r → r < numbers → v ≡ gain r → GainsUpTo gain (r + 1) (set table r v)
-    gains-add {v} low inside e = record {
+    gains_add : {v : ℕ} → 1 ≤ r → r < numbers → v ≡ gain r → GainsUpTo gain (r + 1) (set table r v)
+    gains_add {v} low inside e = record {
       long = length-set table r v ∙ g.long;
       none = beside 0 (λ z. omega arith) ∙ g.none;
       before = λ q l u. go q l u (eqb q r) refl;
@@ -59,15 +59,15 @@ module _ {gain : ℕ → ℕ} where
         go q l u false d = let other = eqb-false q r d in beside q other ∙ g.before q l (omega arith)
 
 -- ---- both
-pub sums-start : {o s : List ℕ} {sums : Sums} → NoSums sums → SumsUpTo o s 1 sums
-sums-start n = record { added-are = rw n.added-are gains-start; costs-are = rw n.costs-are gains-start }
+pub sums_start : {o s : List ℕ} {sums : Sums} → NoSums sums → SumsUpTo o s 1 sums
+sums_start n = record { added_are = rw n.added_are gains_start; costs_are = rw n.costs_are gains_start }
 
 module _ {o s : List ℕ} {r : ℕ} {sums : Sums} (u : SumsUpTo o s r sums) where
-  pub sums-long : SumsLong sums
-  sums-long = record { added-long = u.added-are.long; costs-long = u.costs-are.long }
+  pub sums_long : SumsLong sums
+  sums_long = record { added_long = u.added_are.long; costs_long = u.costs_are.long }
 
-  pub known-before : (q : ℕ) → 1 ≤ q → q < r → Known o s sums q
-  known-before q l h = (u.added-are.before q l h, u.costs-are.before q l h)
+  pub known_before : (q : ℕ) → 1 ≤ q → q < r → Known o s sums q
+  known_before q l h = (u.added_are.before q l h, u.costs_are.before q l h)
 
 -- ---- the record that is looked at
 module _ {o s parents held : List ℕ} {sums : Sums} {hand r : ℕ} (l : LookAt o s parents held sums hand r) where
@@ -77,25 +77,25 @@ module _ {o s parents held : List ℕ} {sums : Sums} {hand r : ℕ} (l : LookAt 
   -- it is held
   module _ (e : get_or held r 0 ≡ 1) where
     counts : within o s r ≡ true
-    counts = one-true (within o s r) (omega (arith, e, l.ready.held-are.at-record r l.is-record))
+    counts = one_true (within o s r) (omega (arith, e, l.ready.held_are.at_record r l.is_record))
 
-    pub adds-nothing : added o s r ≡ 0
-    adds-nothing = gain-held o formed.linked s l.ready.base.base.is-set (branch o) (added-sum o s) l.is-record counts
+    pub adds_nothing : added o s r ≡ 0
+    adds_nothing = gain_held o formed.linked s l.ready.base.base.is_set (branch o) (added_sum o s) l.is_record counts
 
-    costs-nothing : addedCost o s r ≡ 0
-    costs-nothing = gain-held o formed.linked s l.ready.base.base.is-set (price o) (added-cost-sum o s) l.is-record counts
+    costs_nothing : added_cost o s r ≡ 0
+    costs_nothing = gain_held o formed.linked s l.ready.base.base.is_set (price o) (added_cost_sum o s) l.is_record counts
 
-    pub sums-pass : SumsUpTo o s (r + 1) sums
-    sums-pass = record { added-are = gains-pass l.sums-are.added-are adds-nothing; costs-are = gains-pass l.sums-are.costs-are costs-nothing }
+    pub sums_pass : SumsUpTo o s (r + 1) sums
+    sums_pass = record { added_are = gains_pass l.sums_are.added_are adds_nothing; costs_are = gains_pass l.sums_are.costs_are costs_nothing }
 
     -- so it is not picked
-    pub held-kept : (b : ℕ) → hand ≡ inHand o b s hand r
-    unfolding inHand canPick
-    held-kept b = rw (adds-nothing, and-false, and-false, and-false) refl
+    pub held_kept : (b : ℕ) → hand ≡ in_hand o b s hand r
+    unfolding in_hand can_pick
+    held_kept b = rw (adds_nothing, and-false, and-false, and-false) refl
 
     -- and counts for nothing
-    pub held-part : (b : ℕ) → 0 ≡ ceilingPart o b s r
-    held-part b = rw adds-nothing (sym (if-zero (isTaxon o r && (not (chosen s r) && leb (price o r) b))))
+    pub held_part : (b : ℕ) → 0 ≡ ceiling_part o b s r
+    held_part b = rw adds_nothing (sym (if_zero (is_taxon o r && (not (chosen s r) && leb (price o r) b))))
 
   -- it is not
   module _ (n : get_or held r 0 ≡ 1 → ⊥) where
@@ -103,33 +103,33 @@ module _ {o s parents held : List ℕ} {sums : Sums} {hand r : ℕ} (l : LookAt 
     fresh = go (within o s r) refl
       where
         go : (b : Bool) → within o s r ≡ b → b ≡ false
-        go true e = absurd (n (l.ready.held-are.at-record r l.is-record ∙ ap one e))
+        go true e = absurd (n (l.ready.held_are.at_record r l.is_record ∙ ap one e))
         go false e = refl
 
-    added-up : get_or sums.added (get_or parents r 0) 0 + branch o r ≡ added o s r
-    added-up =
-        gain-up o formed.linked s l.ready.base.base.is-set (branch o) (added-sum o s) l.sums-are.added-are l.is-record
-        (l.ready.base.parents-are.at-record r l.is-record) fresh
+    added_up : get_or sums.added (get_or parents r 0) 0 + branch o r ≡ added o s r
+    added_up =
+        gain_up o formed.linked s l.ready.base.base.is_set (branch o) (added_sum o s) l.sums_are.added_are l.is_record
+        (l.ready.base.parents_are.at_record r l.is_record) fresh
 
-    cost-up : get_or sums.costs (get_or parents r 0) 0 + price o r ≡ addedCost o s r
-    cost-up =
-        gain-up o formed.linked s l.ready.base.base.is-set (price o) (added-cost-sum o s) l.sums-are.costs-are l.is-record
-        (l.ready.base.parents-are.at-record r l.is-record) fresh
+    cost_up : get_or sums.costs (get_or parents r 0) 0 + price o r ≡ added_cost o s r
+    cost_up =
+        gain_up o formed.linked s l.ready.base.base.is_set (price o) (added_cost_sum o s) l.sums_are.costs_are l.is_record
+        (l.ready.base.parents_are.at_record r l.is_record) fresh
 
-    pub can-add : CanAdd o parents sums r
-    can-add = record {
-      few = formed.size-most;
-      is-record = l.is-record;
-      parent-before = parents-earlier formed.linked l.ready.base.parents-are r l.is-record.low l.is-record.high;
-      lengths = sums-long l.sums-are;
-      added-fits = omega (arith, added-up, added-bound o formed s r, formed.size-most);
-      costs-fit = omega (arith, cost-up, cost-with o s r, cost-bound o formed (withTaxon s r), formed.size-most);
+    pub can_add : CanAdd o parents sums r
+    can_add = record {
+      few = formed.size_most;
+      is_record = l.is_record;
+      parent_before = parents_earlier formed.linked l.ready.base.parents_are r l.is_record.low l.is_record.high;
+      lengths = sums_long l.sums_are;
+      added_fits = omega (arith, added_up, added_bound o formed s r, formed.size_most);
+      costs_fit = omega (arith, cost_up, cost_with o s r, cost_bound o formed (with_taxon s r), formed.size_most);
     }
 
-    pub sums-add : {new : Sums} → AddedUp o parents r sums new → SumsUpTo o s (r + 1) new
-    sums-add a =
-        let inside : r < numbers = omega (arith, l.is-record.high, formed.size-most) in
+    pub sums_add : {new : Sums} → AddedUp o parents r sums new → SumsUpTo o s (r + 1) new
+    sums_add a =
+        let inside : r < numbers = omega (arith, l.is_record.high, formed.size_most) in
         record {
-          added-are = rw a.added-set (gains-add l.sums-are.added-are l.is-record.low inside added-up);
-          costs-are = rw a.costs-set (gains-add l.sums-are.costs-are l.is-record.low inside cost-up);
+          added_are = rw a.added_set (gains_add l.sums_are.added_are l.is_record.low inside added_up);
+          costs_are = rw a.costs_set (gains_add l.sums_are.costs_are l.is_record.low inside cost_up);
         }

@@ -8,64 +8,64 @@ use lib.Dec.{ltb, leb}
 use lib.ListN.{length}
 use Rattle.lists.specs.Lists.{total}
 use Rattle.refusals.specs.Refusals.{row}
-use Rattle.refusals.proofs.Placed.{Placed, row-placed, then-placed}
-use Rattle.refusals.proofs.Replies.{told-place}
-use Rattle.outline.specs.Outline.{size, records, branch, price, isTaxon}
-use Rattle.outline.specs.Answer.{sizeRows, recordRows}
+use Rattle.refusals.proofs.Placed.{Placed, row_placed, then_placed}
+use Rattle.refusals.proofs.Replies.{told_place}
+use Rattle.outline.specs.Outline.{size, records, branch, price, is_taxon}
+use Rattle.outline.specs.Answer.{size_rows, record_rows}
 use Rattle.outline.specs.WellFormed.{WellFormed}
-use Rattle.outline.proofs.Placed.{sizes-placed, records-placed}
-use Rattle.outline.specs.Rules.{mostRecords, mostLength, mostPrice}
+use Rattle.outline.proofs.Placed.{sizes_placed, records_placed}
+use Rattle.outline.specs.Rules.{most_records, most_length, most_price}
 use Rattle.diversity.specs.Diversity.{chosen, within, rooted, diversity, cost}
-use Rattle.diversity.specs.Search.{noneFits}
-use Rattle.laws.proofs.Sums.{total-most}
-use Rattle.choice.specs.Answer.{mostCount}
-use Rattle.quick.specs.Quick.{withTaxon, added}
-use Rattle.quick.specs.Answer.{Call, mostPicks, judged, reply}
-use Rattle.quick.specs.Inner.{ceilingPart}
+use Rattle.diversity.specs.Search.{none_fits}
+use Rattle.laws.proofs.Sums.{total_most}
+use Rattle.choice.specs.Answer.{most_count}
+use Rattle.quick.specs.Quick.{with_taxon, added}
+use Rattle.quick.specs.Answer.{Call, most_picks, judged, reply}
+use Rattle.quick.specs.Inner.{ceiling_part}
 
-if-below : (b : Bool) (n k : ℕ) → n ≤ k → (if b then n else 0) ≤ k
-if-below true n k h = h
-if-below false n k h = omega arith
+if_below : (b : Bool) (n k : ℕ) → n ≤ k → (if b then n else 0) ≤ k
+if_below true n k h = h
+if_below false n k h = omega arith
 
 module _ (o : List ℕ) (formed : WellFormed o) where
-  pub diversity-bound : (s : List ℕ) → diversity o 0 s ≤ size o * mostLength
+  pub diversity_bound : (s : List ℕ) → diversity o 0 s ≤ size o * most_length
   unfolding diversity rooted records
-  diversity-bound s =
-      total-most _ mostLength 1 (size o) (λ r l u. if-below (within o s r) (branch o r) mostLength (formed.ranged r l (omega arith)).branch-most)
+  diversity_bound s =
+      total_most _ most_length 1 (size o) (λ r l u. if_below (within o s r) (branch o r) most_length (formed.ranged r l (omega arith)).branch_most)
 
-  pub cost-bound : (s : List ℕ) → cost o s ≤ size o * mostPrice
+  pub cost_bound : (s : List ℕ) → cost o s ≤ size o * most_price
   unfolding cost records
-  cost-bound s = total-most _ mostPrice 1 (size o) (λ r l u. if-below (within o s r) (price o r) mostPrice (formed.ranged r l (omega arith)).price-most)
+  cost_bound s = total_most _ most_price 1 (size o) (λ r l u. if_below (within o s r) (price o r) most_price (formed.ranged r l (omega arith)).price_most)
 
-  pub added-bound : (s : List ℕ) (t : ℕ) → added o s t ≤ size o * mostLength
+  pub added_bound : (s : List ℕ) (t : ℕ) → added o s t ≤ size o * most_length
   unfolding added
-  added-bound s t = omega (arith, diversity-bound (withTaxon s t))
+  added_bound s t = omega (arith, diversity_bound (with_taxon s t))
 
-  pub part-most : (b : ℕ) (s : List ℕ) (r : ℕ) → ceilingPart o b s r ≤ mostRecords * mostLength
-  part-most b s r =
-      if-below (isTaxon o r && (not (chosen s r) && leb (price o r) b)) (added o s r) (mostRecords * mostLength)
-      (omega (arith, added-bound s r, formed.size-most))
+  pub part_most : (b : ℕ) (s : List ℕ) (r : ℕ) → ceiling_part o b s r ≤ most_records * most_length
+  part_most b s r =
+      if_below (is_taxon o r && (not (chosen s r) && leb (price o r) b)) (added o s r) (most_records * most_length)
+      (omega (arith, added_bound s r, formed.size_most))
 
-  pub parts-most : (b : ℕ) (s : List ℕ) → total (ceilingPart o b s) (records o) ≤ mostRecords * (mostRecords * mostLength)
+  pub parts_most : (b : ℕ) (s : List ℕ) → total (ceiling_part o b s) (records o) ≤ most_records * (most_records * most_length)
   unfolding records
-  parts-most b s =
-      omega (arith, total-most (ceilingPart o b s) (mostRecords * mostLength) 1 (size o) (λ r l u. part-most b s r), formed.size-most)
+  parts_most b s =
+      omega (arith, total_most (ceiling_part o b s) (most_records * most_length) 1 (size o) (λ r l u. part_most b s r), formed.size_most)
 
 module _ (c : Call) where
-  judged-placed : Placed mostRecords (judged c)
+  judged_placed : Placed most_records (judged c)
   unfolding judged
-  judged-placed =
+  judged_placed =
       let o = c.outline in
-      let large = ltb mostCount c.count in
-      let many = ltb mostPicks c.picks in
+      let large = ltb most_count c.count in
+      let many = ltb most_picks c.picks in
       let short = ltb (length c.marks) (size o) in
-      then-placed mostRecords (sizeRows o) _ (sizes-placed o)
-      (λ sized. then-placed mostRecords (row 4 large) _ (row-placed mostRecords 4 large (omega arith))
-      (λ _. then-placed mostRecords (row 15 many) _ (row-placed mostRecords 15 many (omega arith))
-      (λ _. then-placed mostRecords (recordRows o) _ (records-placed o sized)
-      (λ _. then-placed mostRecords (row 9 short) _ (row-placed mostRecords 9 short (omega arith))
-      (λ _. row-placed mostRecords 12 (noneFits o 0 c.count) (omega arith))))))
+      then_placed most_records (size_rows o) _ (sizes_placed o)
+      (λ sized. then_placed most_records (row 4 large) _ (row_placed most_records 4 large (omega arith))
+      (λ _. then_placed most_records (row 15 many) _ (row_placed most_records 15 many (omega arith))
+      (λ _. then_placed most_records (record_rows o) _ (records_placed o sized)
+      (λ _. then_placed most_records (row 9 short) _ (row_placed most_records 9 short (omega arith))
+      (λ _. row_placed most_records 12 (none_fits o 0 c.count) (omega arith))))))
 
-  pub reply-place-most : (reply c).place ≤ mostRecords
+  pub reply_place_most : (reply c).place ≤ most_records
   unfolding reply
-  reply-place-most = told-place _ _ _ judged-placed.place-most
+  reply_place_most = told_place _ _ _ judged_placed.place_most

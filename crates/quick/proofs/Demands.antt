@@ -10,29 +10,29 @@ use borrow.Author.Tests.{ne_eqb}
 use Rattle.lists.specs.Lists.{over}
 use Rattle.refusals.specs.Reply.{Reply, granted}
 use Rattle.refusals.specs.Table.{Gives}
-use Rattle.refusals.proofs.Replies.{told-passed, decided, granted-apart, refused-determined}
-use Rattle.refusals.proofs.Tests.{decides-less}
-use Rattle.refusals.proofs.Tables.{gives-then, gives-whole}
+use Rattle.refusals.proofs.Replies.{told_passed, decided, granted_apart, refused_determined}
+use Rattle.refusals.proofs.Tests.{decides_less}
+use Rattle.refusals.proofs.Tables.{gives_then, gives_whole}
 use Rattle.outline.specs.Outline.{size, locked, IsRecord}
-use Rattle.outline.proofs.Demands.{sizes-give, records-give}
-use Rattle.diversity.specs.Diversity.{chosen, diversity, chosenTaxa}
-use Rattle.diversity.specs.Search.{bestDiversity}
-use Rattle.laws.specs.Locks.{lockedSet}
-use Rattle.laws.proofs.Locks.{held-each, locked-taxa}
-use Rattle.laws.proofs.Optimum.{greatest-diversity}
+use Rattle.outline.proofs.Demands.{sizes_give, records_give}
+use Rattle.diversity.specs.Diversity.{chosen, diversity, chosen_taxa}
+use Rattle.diversity.specs.Search.{best_diversity}
+use Rattle.laws.specs.Locks.{locked_set}
+use Rattle.laws.proofs.Locks.{held_each, locked_taxa}
+use Rattle.laws.proofs.Optimum.{greatest_diversity}
 use Rattle.choice.specs.Answer as choose
-use Rattle.choice.proofs.Demands.{none-decided, demand-3}
+use Rattle.choice.proofs.Demands.{none_decided, demand_3}
 use Rattle.quick.specs.Quick.{quick}
-use Rattle.quick.specs.Answer.{Call, Figures, Answered, reported, numbersOf, told, mostPicks, judged, quickSet, figuresOf, reply, marksAfter}
-use Rattle.quick.specs.Demands.{quickTable, ChosenOrRefused, markedSet, TrueChoice, PicksMade, SameChoice, BestBetween, MorePicks}
+use Rattle.quick.specs.Answer.{Call, Figures, Answered, reported, numbers_of, told, most_picks, judged, quick_set, figures_of, reply, marks_after}
+use Rattle.quick.specs.Demands.{quick_table, ChosenOrRefused, marked_set, TrueChoice, PicksMade, SameChoice, BestBetween, MorePicks}
 use Rattle.quick.specs.declared.answer.Answer.{Answer}
-use Rattle.quick.proofs.Answers.{outline-formed, locked-fit, quick-good}
-use Rattle.quick.proofs.Picking.{Picking, quick-picking, quick-rises}
-use Rattle.quick.proofs.Submodular.{ceiling-most}
+use Rattle.quick.proofs.Answers.{outline_formed, locked_fit, quick_good}
+use Rattle.quick.proofs.Picking.{Picking, quick_picking, quick_rises}
+use Rattle.quick.proofs.Submodular.{ceiling_most}
 
 -- the numbers told determine the answer
-pub told-determined : (a b : Answer) → told a ≡ told b → a ≡ b
-told-determined (Answer.Chosen d k t e) (Answer.Chosen f l u g) h =
+pub told_determined : (a b : Answer) → told a ≡ told b → a ≡ b
+told_determined (Answer.Chosen d k t e) (Answer.Chosen f l u g) h =
     let same : reported d k t e ≡ reported f l u g = ap (λ (r : Reply Figures). r.figures) h in
     rw (
       ap (λ (x : Figures). x.diversity) same,
@@ -40,103 +40,103 @@ told-determined (Answer.Chosen d k t e) (Answer.Chosen f l u g) h =
       ap (λ (x : Figures). x.taxa) same,
       ap (λ (x : Figures). x.ceiling) same,
     )
-told-determined (Answer.Chosen d k t e) (Answer.Refused f) h = absurd (granted-apart f h)
-told-determined (Answer.Refused d) (Answer.Chosen f l u g) h = absurd (granted-apart d (sym h))
-told-determined (Answer.Refused d) (Answer.Refused e) h = ap Answer.Refused (refused-determined d e h)
+told_determined (Answer.Chosen d k t e) (Answer.Refused f) h = absurd (granted_apart f h)
+told_determined (Answer.Refused d) (Answer.Chosen f l u g) h = absurd (granted_apart d (sym h))
+told_determined (Answer.Refused d) (Answer.Refused e) h = ap Answer.Refused (refused_determined d e h)
 
 module _ (c : Call) where
   -- what a call is judged is what its table gives
-  judged-gives : Gives (quickTable c) (judged c)
+  judged_gives : Gives (quick_table c) (judged c)
   unfolding judged
-  judged-gives =
-      gives-then (sizes-give c.outline)
-      (gives-then (gives-whole 3 (decides-less choose.mostCount c.count))
-      (gives-then (gives-whole 14 (decides-less mostPicks c.picks))
-      (gives-then (records-give c.outline)
-      (gives-then (gives-whole 8 (decides-less (length c.marks) (size c.outline)))
-      (gives-whole 11 (none-decided c.outline 0 c.count))))))
+  judged_gives =
+      gives_then (sizes_give c.outline)
+      (gives_then (gives_whole 3 (decides_less choose.most_count c.count))
+      (gives_then (gives_whole 14 (decides_less most_picks c.picks))
+      (gives_then (records_give c.outline)
+      (gives_then (gives_whole 8 (decides_less (length c.marks) (size c.outline)))
+      (gives_whole 11 (none_decided c.outline 0 c.count))))))
 
 -- a call of `choose` is told the best diversity of the exhaustive search
-best-told : (d : choose.Call) {best : Reply choose.Figures} {marks curve work : List ℕ} → choose.Answered d best marks curve work → best.number ≡ 0
-    → best.figures.diversity ≡ bestDiversity d.outline d.way d.count
-best-told d y e = let f = demand-3 d y e in f.diversity-shown ∙ (f.columns d.count (omega arith)).searched.0
+best_told : (d : choose.Call) {best : Reply choose.Figures} {marks curve work : List ℕ} → choose.Answered d best marks curve work → best.number ≡ 0
+    → best.figures.diversity ≡ best_diversity d.outline d.way d.count
+best_told d y e = let f = demand_3 d y e in f.diversity_is_shown ∙ (f.columns d.count (omega arith)).searched.0
 
-best-of : {c : Call} {d : choose.Call} → SameChoice c d → bestDiversity d.outline d.way d.count ≡ bestDiversity c.outline 0 c.count
-best-of same = rw (same.outline-is, same.rooted, same.count-is)
+best_of : {c : Call} {d : choose.Call} → SameChoice c d → best_diversity d.outline d.way d.count ≡ best_diversity c.outline 0 c.count
+best_of same = rw (same.outline_is, same.rooted, same.count_is)
 
 module _ (c : Call) {r : Reply Figures} {marks : List ℕ} (x : Answered c r marks) where
   -- demand 1: a choice, or exactly one refusal of the table, under its condition only; a refusal leaves the marks
-  pub demand-1 : ChosenOrRefused c r marks
-  unfolding reply marksAfter
-  demand-1 =
-      decided _ _ _ numbersOf refl (judged-gives c) x.told-reply
-      (λ h. rw (x.marks-written, ne_eqb (judged c).number 0 (λ z. omega arith)))
+  pub demand_1 : ChosenOrRefused c r marks
+  unfolding reply marks_after
+  demand_1 =
+      decided _ _ _ numbers_of refl (judged_gives c) x.told_reply
+      (λ h. rw (x.marks_written, ne_eqb (judged c).number 0 (λ z. omega arith)))
 
   -- the number told is 0
   module _ (z : r.number ≡ 0) where
     passes : (judged c).number ≡ 0
     unfolding reply
-    passes = told-passed _ _ _ (sym (ap (λ (a : Reply Figures). a.number) x.told-reply) ∙ z)
+    passes = told_passed _ _ _ (sym (ap (λ (a : Reply Figures). a.number) x.told_reply) ∙ z)
 
-    told-is : r ≡ granted (figuresOf c.outline c.count (quickSet c))
+    told_is : r ≡ granted (figures_of c.outline c.count (quick_set c))
     unfolding reply
-    told-is = x.told-reply ∙ rw passes
+    told_is = x.told_reply ∙ rw passes
 
     -- exactly the rule's picks are marked, after the locked taxa
-    pub marked-is : markedSet c marks ≡ quickSet c
-    unfolding marksAfter over
-    marked-is = rw (x.marks-written, passes) (take_at (quickSet c) _ (size c.outline) (quick-good c passes).0.whole)
+    pub marked_is : marked_set c marks ≡ quick_set c
+    unfolding marks_after over
+    marked_is = rw (x.marks_written, passes) (take_at (quick_set c) _ (size c.outline) (quick_good c passes).0.whole)
 
     -- the marks are a set that fits and holds every locked taxon, and the numbers are its own
-    pub true-choice : TrueChoice c r marks
-    unfolding figuresOf
-    true-choice = record {
-      marked-set = rw marked-is (quick-good c passes).0;
-      marked-fits = rw marked-is (quick-good c passes).1;
-      diversity-true = rw (told-is, marked-is);
-      cost-true = rw (told-is, marked-is);
-      taxa-true = rw (told-is, marked-is);
-      ceiling-true = rw (told-is, marked-is);
+    pub true_choice : TrueChoice c r marks
+    unfolding figures_of
+    true_choice = record {
+      marked_is_set = rw marked_is (quick_good c passes).0;
+      marked_fits = rw marked_is (quick_good c passes).1;
+      diversity_true = rw (told_is, marked_is);
+      cost_true = rw (told_is, marked_is);
+      taxa_true = rw (told_is, marked_is);
+      ceiling_true = rw (told_is, marked_is);
     }
 
     -- each locked taxon is marked
-    pub locked-marked : (t : ℕ) → IsRecord c.outline t → locked c.outline t ≡ true → chosen (markedSet c marks) t ≡ true
-    locked-marked t i e = (held-each c.outline (markedSet c marks)).0 true-choice.marked-fits.locked-held t i.low i.high e
+    pub locked_marked : (t : ℕ) → IsRecord c.outline t → locked c.outline t ≡ true → chosen (marked_set c marks) t ≡ true
+    locked_marked t i e = (held_each c.outline (marked_set c marks)).0 true_choice.marked_fits.locked_held t i.low i.high e
 
     -- at most so many taxa are picked, and fewer only where none is left that can be picked
-    pub picks-made : PicksMade c r marks
-    picks-made = record {
-      most = omega (arith, true-choice.taxa-true, ap (chosenTaxa c.outline) marked-is, made.most, locked-taxa c.outline);
-      ended = λ h t i. rw marked-is (made.ended (omega (arith, true-choice.taxa-true, ap (chosenTaxa c.outline) marked-is, locked-taxa c.outline)) t i);
+    pub picks_made : PicksMade c r marks
+    picks_made = record {
+      most = omega (arith, true_choice.taxa_true, ap (chosen_taxa c.outline) marked_is, made.most, locked_taxa c.outline);
+      ended = λ h t i. rw marked_is (made.ended (omega (arith, true_choice.taxa_true, ap (chosen_taxa c.outline) marked_is, locked_taxa c.outline)) t i);
     }
       where
-        made : Picking c.outline c.count c.picks (lockedSet c.outline) (quickSet c)
-        made = quick-picking c.outline c.count (locked-fit c passes) c.picks
+        made : Picking c.outline c.count c.picks (locked_set c.outline) (quick_set c)
+        made = quick_picking c.outline c.count (locked_fit c passes) c.picks
 
     -- the best diversity, as a call of `choose` is told it, is never below the choice's and never above its ceiling
-    pub best-between : (d : choose.Call) → SameChoice c d → {best : Reply choose.Figures} {marks' curve work : List ℕ}
+    pub best_between : (d : choose.Call) → SameChoice c d → {best : Reply choose.Figures} {marks' curve work : List ℕ}
         → choose.Answered d best marks' curve work → best.number ≡ 0 → BestBetween r best
-    best-between d same {best} y e =
+    best_between d same {best} y e =
         let o = c.outline in
-        let t = true-choice in
-        let shown = best-told d y e ∙ best-of same in
+        let t = true_choice in
+        let shown = best_told d y e ∙ best_of same in
         record {
-          least = omega (arith, t.diversity-true, greatest-diversity o 0 c.count (markedSet c marks) t.marked-set t.marked-fits, shown);
+          least = omega (arith, t.diversity_true, greatest_diversity o 0 c.count (marked_set c marks) t.marked_is_set t.marked_fits, shown);
           most = omega (
             arith,
-            t.ceiling-true,
-            ceiling-most o (outline-formed c passes).linked c.count (locked-fit c passes) (markedSet c marks) t.marked-set,
+            t.ceiling_true,
+            ceiling_most o (outline_formed c passes).linked c.count (locked_fit c passes) (marked_set c marks) t.marked_is_set,
             shown,
           );
         }
 
 -- more picks never lower the diversity
-quick-of : {c d : Call} → MorePicks c d → quickSet d ≡ quick c.outline c.count d.picks
-quick-of m = rw (m.outline-is, m.count-is)
+quick_of : {c d : Call} → MorePicks c d → quick_set d ≡ quick c.outline c.count d.picks
+quick_of m = rw (m.outline_is, m.count_is)
 
-pub more-picks : (c d : Call) → MorePicks c d → {r q : Reply Figures} {marks marks' : List ℕ} → Answered c r marks → r.number ≡ 0
+pub more_picks : (c d : Call) → MorePicks c d → {r q : Reply Figures} {marks marks' : List ℕ} → Answered c r marks → r.number ≡ 0
     → Answered d q marks' → q.number ≡ 0 → r.figures.diversity ≤ q.figures.diversity
-more-picks c d m {r} {q} x z y e =
-    let first = (true-choice c x z).diversity-true ∙ ap (diversity c.outline 0) (marked-is c x z) in
-    let second = (true-choice d y e).diversity-true ∙ ap₂ (λ o s. diversity o 0 s) m.outline-is (marked-is d y e ∙ quick-of m) in
-    omega (arith, quick-rises c.outline c.count c.picks d.picks m.picks-more, first, second)
+more_picks c d m {r} {q} x z y e =
+    let first = (true_choice c x z).diversity_true ∙ ap (diversity c.outline 0) (marked_is c x z) in
+    let second = (true_choice d y e).diversity_true ∙ ap₂ (λ o s. diversity o 0 s) m.outline_is (marked_is d y e ∙ quick_of m) in
+    omega (arith, quick_rises c.outline c.count c.picks d.picks m.picks_more, first, second)

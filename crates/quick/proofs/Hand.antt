@@ -8,91 +8,91 @@ use native.Mathlib.Omega.{arith}
 use lib.Dec.{eqb, ltb, leb}
 use lib.ListN.{get_or}
 use borrow.Author.Tests.{le-leb, lt-leb, leb-true, leb-false}
-use Rattle.lists.proofs.Walk.{Folding, folding-starts, folding-goes, folding-ends}
-use Rattle.outline.specs.Outline.{size, records, isTaxon}
+use Rattle.lists.proofs.Walk.{Folding, folding_starts, folding_goes, folding_ends}
+use Rattle.outline.specs.Outline.{size, records, is_taxon}
 use Rattle.diversity.specs.Diversity.{chosen, cost}
-use Rattle.quick.specs.Quick.{addedCost, canPick, rather, inHand, picked}
-use Rattle.quick.specs.Inner.{ratherBy, SumsUpTo, NoSums, Known, KnownAt, HandAt, LookedAt, NextPick}
+use Rattle.quick.specs.Quick.{added_cost, can_pick, rather, in_hand, picked}
+use Rattle.quick.specs.Inner.{rather_by, SumsUpTo, NoSums, Known, KnownAt, HandAt, LookedAt, NextPick}
 use Rattle.quick.specs.declared.sums.Sums.{Sums}
-use Rattle.quick.proofs.Adding.{sums-start, known-before}
-use Rattle.quick.proofs.Taxon.{cost-with}
+use Rattle.quick.proofs.Adding.{sums_start, known_before}
+use Rattle.quick.proofs.Taxon.{cost_with}
 
 -- what is at most the room left is, with what is spent, at most both
-leb-shift : (c a b : ℕ) → leb a b ≡ leb (c + a) (c + b)
-leb-shift c a b = go (leb a b) refl
+leb_shift : (c a b : ℕ) → leb a b ≡ leb (c + a) (c + b)
+leb_shift c a b = go (leb a b) refl
   where
     go : (t : Bool) → leb a b ≡ t → leb a b ≡ leb (c + a) (c + b)
     go true e = e ∙ sym (le-leb (c + a) (c + b) (omega (arith, leb-true a b e)))
     go false e = e ∙ sym (lt-leb (c + a) (c + b) (omega (arith, leb-false a b e)))
 
-pub can-pick-is : {o s : List ℕ} {sums : Sums} {t : ℕ} → KnownAt o s sums t → (room : ℕ) {a : Bool} → a ≡ isTaxon o t
-    → (a && (not (chosen s t) && (leb (get_or sums.costs t 0) room && ltb 0 (get_or sums.added t 0)))) ≡ canPick o (cost o s + room) s t
-unfolding canPick
-can-pick-is {o} {s} {sums} {t} k room e =
-    let cheap = leb-shift (cost o s) (addedCost o s t) room in
-    rw (e, cost-with o s t, ← cheap, k.known.0, k.known.1) refl
+pub can_pick_is : {o s : List ℕ} {sums : Sums} {t : ℕ} → KnownAt o s sums t → (room : ℕ) {a : Bool} → a ≡ is_taxon o t
+    → (a && (not (chosen s t) && (leb (get_or sums.costs t 0) room && ltb 0 (get_or sums.added t 0)))) ≡ can_pick o (cost o s + room) s t
+unfolding can_pick
+can_pick_is {o} {s} {sums} {t} k room e =
+    let cheap = leb_shift (cost o s) (added_cost o s t) room in
+    rw (e, cost_with o s t, ← cheap, k.known.0, k.known.1) refl
 
-rather-is : (o s : List ℕ) (sums : Sums) (t u : ℕ) → Known o s sums t → Known o s sums u
-    → ratherBy (get_or sums.added t 0) (get_or sums.added u 0) (get_or sums.costs t 0) (get_or sums.costs u 0) t u ≡ rather o s t u
+rather_is : (o s : List ℕ) (sums : Sums) (t u : ℕ) → Known o s sums t → Known o s sums u
+    → rather_by (get_or sums.added t 0) (get_or sums.added u 0) (get_or sums.costs t 0) (get_or sums.costs u 0) t u ≡ rather o s t u
 unfolding rather
-rather-is o s sums t u k m = rw (k.0, k.1, m.0, m.1) refl
+rather_is o s sums t u k m = rw (k.0, k.1, m.0, m.1) refl
 
 module _ {o s : List ℕ} {sums : Sums} {hand t : ℕ} (h : HandAt o s sums hand t) where
   -- the test by which a record is taken in hand
-  test-is : (b : ℕ) {p r : Bool} → p ≡ canPick o b s t
-      → r ≡ ratherBy (get_or sums.added t 0) (get_or sums.added hand 0) (get_or sums.costs t 0) (get_or sums.costs hand 0) t hand
-      → (p && (eqb hand 0 || r)) ≡ (canPick o b s t && (eqb hand 0 || rather o s t hand))
-  test-is b {p} {r} e d = by hand refl d
+  test_is : (b : ℕ) {p r : Bool} → p ≡ can_pick o b s t
+      → r ≡ rather_by (get_or sums.added t 0) (get_or sums.added hand 0) (get_or sums.costs t 0) (get_or sums.costs hand 0) t hand
+      → (p && (eqb hand 0 || r)) ≡ (can_pick o b s t && (eqb hand 0 || rather o s t hand))
+  test_is b {p} {r} e d = by hand refl d
     where
       by : (n : ℕ) → n ≡ hand
-          → r ≡ ratherBy (get_or sums.added t 0) (get_or sums.added n 0) (get_or sums.costs t 0) (get_or sums.costs n 0) t n
-          → (p && (eqb n 0 || r)) ≡ (canPick o b s t && (eqb n 0 || rather o s t n))
+          → r ≡ rather_by (get_or sums.added t 0) (get_or sums.added n 0) (get_or sums.costs t 0) (get_or sums.costs n 0) t n
+          → (p && (eqb n 0 || r)) ≡ (can_pick o b s t && (eqb n 0 || rather o s t n))
       by zero i d = ap (λ p. p && true) e
       by (suc n) i d =
-          ap₂ (λ p r. p && (eqb (suc n) 0 || r)) e (d ∙ rather-is o s sums t (suc n) h.at.known (rw i (h.hand-known (omega arith))))
+          ap₂ (λ p r. p && (eqb (suc n) 0 || r)) e (d ∙ rather_is o s sums t (suc n) h.at.known (rw i (h.hand_known (omega arith))))
 
-  module _ (b : ℕ) {p r : Bool} (e : p ≡ canPick o b s t)
-      (d : r ≡ ratherBy (get_or sums.added t 0) (get_or sums.added hand 0) (get_or sums.costs t 0) (get_or sums.costs hand 0) t hand) where
-    pub hand-taken : (p && (eqb hand 0 || r)) ≡ true → t ≡ inHand o b s hand t
-    unfolding inHand
-    hand-taken z = rw (sym (test-is b e d) ∙ z) refl
+  module _ (b : ℕ) {p r : Bool} (e : p ≡ can_pick o b s t)
+      (d : r ≡ rather_by (get_or sums.added t 0) (get_or sums.added hand 0) (get_or sums.costs t 0) (get_or sums.costs hand 0) t hand) where
+    pub hand_taken : (p && (eqb hand 0 || r)) ≡ true → t ≡ in_hand o b s hand t
+    unfolding in_hand
+    hand_taken z = rw (sym (test_is b e d) ∙ z) refl
 
-    pub hand-kept : (p && (eqb hand 0 || r)) ≡ false → hand ≡ inHand o b s hand t
-    unfolding inHand
-    hand-kept z = rw (sym (test-is b e d) ∙ z) refl
+    pub hand_kept : (p && (eqb hand 0 || r)) ≡ false → hand ≡ in_hand o b s hand t
+    unfolding in_hand
+    hand_kept z = rw (sym (test_is b e d) ∙ z) refl
 
 -- a loop's invariant: what is left to look at decides from the record in hand
 pub record Choosing (o : List ℕ) (b : ℕ) (s : List ℕ) (sums : Sums) (hand r : ℕ) : Type 0 where
-  pub folded : Folding (inHand o b s) 0 (size o) hand r
-  pub hand-before : hand < r
+  pub folded : Folding (in_hand o b s) 0 (size o) hand r
+  pub hand_before : hand < r
   pub most : r ≤ size o + 1
-  pub sums-are : SumsUpTo o s r sums
+  pub sums_are : SumsUpTo o s r sums
 
 module _ {o : List ℕ} {b : ℕ} {s : List ℕ} where
-  pub choosing-starts : {sums : Sums} → NoSums sums → Choosing o b s sums 0 1
-  choosing-starts n = record { folded = folding-starts _ _ _; hand-before = omega arith; most = omega arith; sums-are = sums-start n }
+  pub choosing_starts : {sums : Sums} → NoSums sums → Choosing o b s sums 0 1
+  choosing_starts n = record { folded = folding_starts _ _ _; hand_before = omega arith; most = omega arith; sums_are = sums_start n }
 
-  pub choosing-goes : {sums new : Sums} {hand r v : ℕ} → Choosing o b s sums hand r → r ≤ size o → LookedAt o s b new hand r v
+  pub choosing_goes : {sums new : Sums} {hand r v : ℕ} → Choosing o b s sums hand r → r ≤ size o → LookedAt o s b new hand r v
       → Choosing o b s new v (r + 1)
-  choosing-goes {hand = hand} {r = r} h u x = record {
-    folded = folding-goes _ _ _ h.folded u x.hand-is;
-    hand-before = rw x.hand-is early;
+  choosing_goes {hand = hand} {r = r} h u x = record {
+    folded = folding_goes _ _ _ h.folded u x.hand_is;
+    hand_before = rw x.hand_is early;
     most = omega arith;
-    sums-are = x.sums-are;
+    sums_are = x.sums_are;
   }
     where
       either : (c : Bool) → (if c then r else hand) < r + 1
       either true = omega arith
-      either false = omega (arith, h.hand-before)
+      either false = omega (arith, h.hand_before)
 
-      early : inHand o b s hand r < r + 1
-      early = unfold inHand in either (canPick o b s r && (eqb hand 0 || rather o s r hand))
+      early : in_hand o b s hand r < r + 1
+      early = unfold in_hand in either (can_pick o b s r && (eqb hand 0 || rather o s r hand))
 
-  pub choosing-ends : {sums : Sums} {hand r : ℕ} → Choosing o b s sums hand r → size o < r
+  pub choosing_ends : {sums : Sums} {hand r : ℕ} → Choosing o b s sums hand r → size o < r
       → NextPick o b s (record { taxon = hand; quarters = get_or sums.costs hand 0 })
   unfolding picked records
-  choosing-ends {sums} {hand} h u = record {
-    taxon-is = folding-ends _ _ _ h.folded u;
-    taxon-most = omega (arith, h.hand-before, h.most);
-    quarters-are = λ l. (known-before h.sums-are hand l h.hand-before).1;
+  choosing_ends {sums} {hand} h u = record {
+    taxon_is = folding_ends _ _ _ h.folded u;
+    taxon_most = omega (arith, h.hand_before, h.most);
+    quarters_are = λ l. (known_before h.sums_are hand l h.hand_before).1;
   }

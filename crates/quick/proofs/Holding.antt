@@ -14,12 +14,12 @@ use Rattle.outline.specs.Inner.{numbers}
 use Rattle.outline.specs.Outline.{size, IsRecord}
 use Rattle.outline.specs.WellFormed.{Linked, WellFormed}
 use Rattle.diversity.specs.Diversity.{clade, chosen, within}
-use Rattle.diversity.specs.Paths.{OnWay, itself as on-itself, parent}
-use Rattle.laws.proofs.Prefixes.{chosen-up-to, step-alike}
-use Rattle.laws.proofs.Sums.{one-true}
+use Rattle.diversity.specs.Paths.{OnWay, itself as on_itself, parent}
+use Rattle.laws.proofs.Prefixes.{chosen_up_to, step_alike}
+use Rattle.laws.proofs.Sums.{one_true}
 use Rattle.quick.specs.Inner.{Parents, Up, itself, onward, HeldIn, Rising, JoinedAt, Joined}
-use Rattle.quick.proofs.Along.{With, within-with, within-above}
-use Rattle.quick.proofs.Upwards.{none-up, up-step, up-most, parents-earlier, up-way, way-up}
+use Rattle.quick.proofs.Along.{With, within_with, within_above}
+use Rattle.quick.proofs.Upwards.{none_up, up_step, up_most, parents_earlier, up_way, way_up}
 
 -- ---- a loop that goes up
 -- its invariant: what is on the way up from t is passed and has 1, or is still to come; from q down nothing has changed
@@ -30,12 +30,12 @@ pub record Going (parents : List ℕ) (t q : ℕ) (old new : List ℕ) : Type 0 
   pub each : (r : ℕ) → 1 ≤ r → JoinedAt parents t old new r (Up parents q r)
   pub ahead : (r : ℕ) → r ≤ q → get_or new r 0 ≡ get_or old r 0
 
-pub going-starts : {parents : List ℕ} {t : ℕ} {old : List ℕ} → Going parents t t old old
-going-starts = record { below = omega arith; long = refl; here = itself; each = λ r l. inr (λ u. u, refl); ahead = λ r u. refl }
+pub going_starts : {parents : List ℕ} {t : ℕ} {old : List ℕ} → Going parents t t old old
+going_starts = record { below = omega arith; long = refl; here = itself; each = λ r l. inr (λ u. u, refl); ahead = λ r u. refl }
 
 module _ {parents : List ℕ} {t q : ℕ} {old new : List ℕ} (p : Rising parents t old) (g : Going parents t q old new) where
-  pub going-goes : 1 ≤ q → Going parents t (get_or parents q 0) old (set new q 1)
-  going-goes l =
+  pub going_goes : 1 ≤ q → Going parents t (get_or parents q 0) old (set new q 1)
+  going_goes l =
       let up = p.earlier q l g.below in
       record {
         below = omega (arith, up, g.below);
@@ -64,7 +64,7 @@ module _ {parents : List ℕ} {t q : ℕ} {old new : List ℕ} (p : Rising paren
 
           by : JoinedAt parents t old new r (Up parents q r) → JoinedAt parents t old (set new q 1) r (Up parents (get_or parents q 0) r)
           by (inl (u, z)) = inl (u, beside r (eqb-false r q e) ∙ z)
-          by (inr (f, same)) = inr (λ u. past (up-step (f u)), beside r (eqb-false r q e) ∙ same)
+          by (inr (f, same)) = inr (λ u. past (up_step (f u)), beside r (eqb-false r q e) ∙ same)
 
   -- what was still to come was held before
   joined : ((r : ℕ) → 1 ≤ r → Up parents q r → get_or old r 0 ≡ 1) → Joined parents t old new
@@ -75,24 +75,24 @@ module _ {parents : List ℕ} {t q : ℕ} {old new : List ℕ} (p : Rising paren
       go r l (inr (f, same)) = inr (λ u. held r l (f u), same)
 
   -- at the top nothing is
-  pub going-ends : q ≡ 0 → Joined parents t old new
-  going-ends z = joined (λ r l u. absurd (omega (arith, none-up (subst (λ k. Up parents k r) z u))))
+  pub going_ends : q ≡ 0 → Joined parents t old new
+  going_ends z = joined (λ r l u. absurd (omega (arith, none_up (subst (λ k. Up parents k r) z u))))
 
   -- and above a record that is held, all is held
-  pub going-stops : 1 ≤ q → get_or new q 0 ≡ 1 → Joined parents t old new
-  going-stops l e = joined (λ r m u. above u m)
+  pub going_stops : 1 ≤ q → get_or new q 0 ≡ 1 → Joined parents t old new
+  going_stops l e = joined (λ r m u. above u m)
     where
       above : {r : ℕ} → Up parents q r → 1 ≤ r → get_or old r 0 ≡ 1
       above itself m = sym (g.ahead q (omega arith)) ∙ e
-      above (onward {q = k} u m) n = p.closed k m (omega (arith, up-most p.earlier g.below u, g.below)) (above u m) n
+      above (onward {q = k} u m) n = p.closed k m (omega (arith, up_most p.earlier g.below u, g.below)) (above u m) n
 
 -- ---- the records that a set holds
 module _ {o : List ℕ} (linked : Linked o) {parents : List ℕ} (ps : Parents o parents) {t : ℕ} (i : IsRecord o t) {s : List ℕ} where
   -- a way up from a record can be gone
   pub rising : WellFormed o → {held : List ℕ} → HeldIn o s held → Rising parents t held
   rising formed {held} h = record {
-    small = omega (arith, i.high, formed.size-most);
-    earlier = λ r l u. parents-earlier linked ps r l (omega (arith, u, i.high));
+    small = omega (arith, i.high, formed.size_most);
+    earlier = λ r l u. parents_earlier linked ps r l (omega (arith, u, i.high));
     long = h.long;
     closed = closed;
   }
@@ -100,21 +100,21 @@ module _ {o : List ℕ} (linked : Linked o) {parents : List ℕ} (ps : Parents o
       closed : (r : ℕ) → 1 ≤ r → r ≤ t → get_or held r 0 ≡ 1 → 1 ≤ get_or parents r 0 → get_or held (get_or parents r 0) 0 ≡ 1
       closed r l u e m =
           let j : IsRecord o r = record { low = l; high = omega (arith, u, i.high) } in
-          let k : IsRecord o (get_or parents r 0) = record { low = m; high = omega (arith, parents-earlier linked ps r l j.high, j.high) } in
-          let counts = one-true (within o s r) (omega (arith, e, h.at-record r j)) in
-          h.at-record (get_or parents r 0) k ∙ ap one (within-above o linked s j k (parent on-itself (ps.at-record r j)) counts)
+          let k : IsRecord o (get_or parents r 0) = record { low = m; high = omega (arith, parents_earlier linked ps r l j.high, j.high) } in
+          let counts = one_true (within o s r) (omega (arith, e, h.at_record r j)) in
+          h.at_record (get_or parents r 0) k ∙ ap one (within_above o linked s j k (parent on_itself (ps.at_record r j)) counts)
 
   -- once the taxon has joined
   module _ {s' : List ℕ} (more : With o s t s') where
-    pub held-joined : {old new : List ℕ} → HeldIn o s old → Joined parents t old new → HeldIn o s' new
-    held-joined {old} {new} f h = record { long = h.long ∙ f.long; at-record = λ r j. go r j (h.each r j.low) }
+    pub held_joined : {old new : List ℕ} → HeldIn o s old → Joined parents t old new → HeldIn o s' new
+    held_joined {old} {new} f h = record { long = h.long ∙ f.long; at_record = λ r j. go r j (h.each r j.low) }
       where
         go : (r : ℕ) → IsRecord o r → JoinedAt parents t old new r (get_or old r 0 ≡ 1) → get_or new r 0 ≡ one (within o s' r)
-        go r j (inl (u, e)) = e ∙ ap one (sym ((within-with o linked s s' i more j).1 (inr (up-way linked ps i u j.low))))
-        go r j (inr (was, same)) = same ∙ f.at-record r j ∙ ap one (alike (within o s r) refl (within o s' r) refl)
+        go r j (inl (u, e)) = e ∙ ap one (sym ((within_with o linked s s' i more j).1 (inr (up_way linked ps i u j.low))))
+        go r j (inr (was, same)) = same ∙ f.at_record r j ∙ ap one (alike (within o s r) refl (within o s' r) refl)
           where
             ways : within o s' r ≡ true ↔ (within o s r ≡ true) ⊎ OnWay o t r
-            ways = within-with o linked s s' i more j
+            ways = within_with o linked s s' i more j
 
             alike : (a : Bool) → within o s r ≡ a → (b : Bool) → within o s' r ≡ b → a ≡ b
             alike true ea true eb = refl
@@ -124,12 +124,12 @@ module _ {o : List ℕ} (linked : Linked o) {parents : List ℕ} (ps : Parents o
               where
                 by : (within o s r ≡ true) ⊎ OnWay o t r → false ≡ true
                 by (inl d) = absurd (true≢false (sym d ∙ ea))
-                by (inr w) = absurd (omega (arith, was (way-up linked ps i w), f.at-record r j, ap one ea))
+                by (inr w) = absurd (omega (arith, was (way_up linked ps i w), f.at_record r j, ap one ea))
 
 -- ---- the first i marks, and the next
 module _ (o s : List ℕ) (i : ℕ) where
-  as-before : {q : ℕ} → IsRecord o q → (q ≡ suc i → ⊥) → ltb (q - 1) (suc i) ≡ ltb (q - 1) i
-  as-before {q} j other = go (ltb (q - 1) i) refl
+  as_before : {q : ℕ} → IsRecord o q → (q ≡ suc i → ⊥) → ltb (q - 1) (suc i) ≡ ltb (q - 1) i
+  as_before {q} j other = go (ltb (q - 1) i) refl
     where
       go : (b : Bool) → ltb (q - 1) i ≡ b → ltb (q - 1) (suc i) ≡ b
       go true e = let l = ltb-true (q - 1) i e in lt-ltb (q - 1) (suc i) (omega arith)
@@ -142,20 +142,20 @@ module _ (o s : List ℕ) (i : ℕ) where
           by false d = let ne = eqb-false q (suc i) d in let h = ltb-false (q - 1) i e in omega (arith, j.low)
 
   -- it is chosen
-  pub prefix-with : chosen s (suc i) ≡ true → With o (take i s) (suc i) (take (suc i) s)
-  prefix-with e q j = chosen-up-to s (suc i) q ∙ go (eqb q (suc i)) refl ∙ sym (ap (λ b. b || eqb q (suc i)) (chosen-up-to s i q))
+  pub prefix_with : chosen s (suc i) ≡ true → With o (take i s) (suc i) (take (suc i) s)
+  prefix_with e q j = chosen_up_to s (suc i) q ∙ go (eqb q (suc i)) refl ∙ sym (ap (λ b. b || eqb q (suc i)) (chosen_up_to s i q))
     where
       go : (b : Bool) → eqb q (suc i) ≡ b → (chosen s q && ltb (q - 1) (suc i)) ≡ ((chosen s q && ltb (q - 1) i) || b)
       go true d =
           let same = eqb-true q (suc i) d in
           rw (ap (chosen s) same ∙ e, lt-ltb (q - 1) (suc i) (omega arith)) (sym (or-true _))
-      go false d = ap (λ b. chosen s q && b) (as-before j (eqb-false q (suc i) d)) ∙ sym (or-false _)
+      go false d = ap (λ b. chosen s q && b) (as_before j (eqb-false q (suc i) d)) ∙ sym (or-false _)
 
 -- ---- the marks, one after the other
 -- a loop's invariant: the marks before record r are held
 pub record Gathering (o s : List ℕ) (r : ℕ) (held : List ℕ) : Type 0 where
   pub low : 1 ≤ r
-  pub held-are : HeldIn o (take (r - 1) s) held
+  pub held_are : HeldIn o (take (r - 1) s) held
 
 nowhere : (xs : List ℕ) → anywhere (chosen []) xs ≡ false
 unfolding anywhere chosen
@@ -164,40 +164,40 @@ nowhere (x ∷ xs) = nowhere xs
 
 module _ {o s : List ℕ} where
   -- without marks none is
-  pub gathering-starts : size o < numbers → Gathering o s 1 (replicate numbers 0)
+  pub gathering_starts : size o < numbers → Gathering o s 1 (replicate numbers 0)
   unfolding within
-  gathering-starts few = record {
+  gathering_starts few = record {
     low = omega arith;
-    held-are = record {
+    held_are = record {
       long = length-replicate {A = ℕ} numbers 0;
-      at-record = λ r i. get_or-replicate {A = ℕ} numbers r 0 0 (omega (arith, i.high)) ∙ ap one (sym (nowhere (clade o r)));
+      at_record = λ r i. get_or-replicate {A = ℕ} numbers r 0 0 (omega (arith, i.high)) ∙ ap one (sym (nowhere (clade o r)));
     };
   }
 
-  marks-before : (i : ℕ) {held : List ℕ} → Gathering o s (suc i) held → HeldIn o (take i s) held
-  marks-before i {held} g = let taken : suc i - 1 ≡ i = omega arith in rw taken at g.held-are
+  marks_before : (i : ℕ) {held : List ℕ} → Gathering o s (suc i) held → HeldIn o (take i s) held
+  marks_before i {held} g = let taken : suc i - 1 ≡ i = omega arith in rw taken at g.held_are
 
   gathered : (i : ℕ) {held : List ℕ} → HeldIn o (take (suc i) s) held → Gathering o s (suc i + 1) held
-  gathered i {held} h = let taken : suc i + 1 - 1 ≡ suc i = omega arith in record { low = omega arith; held-are = rw taken h }
+  gathered i {held} h = let taken : suc i + 1 - 1 ≡ suc i = omega arith in record { low = omega arith; held_are = rw taken h }
 
-  pub gathering-passes : (r : ℕ) {held : List ℕ} → Gathering o s r held → chosen s r ≡ false → Gathering o s (r + 1) held
+  pub gathering_passes : (r : ℕ) {held : List ℕ} → Gathering o s r held → chosen s r ≡ false → Gathering o s (r + 1) held
   unfolding within
-  gathering-passes zero g e = absurd (omega (arith, g.low))
-  gathering-passes (suc i) g e =
-      let h = marks-before i g in
+  gathering_passes zero g e = absurd (omega (arith, g.low))
+  gathering_passes (suc i) g e =
+      let h = marks_before i g in
       gathered i
       (record {
         long = h.long;
-        at-record = λ r j. h.at-record r j ∙ ap (λ p. one (anywhere p (clade o r))) (fun_ext (λ q. sym (step-alike s i e q)));
+        at_record = λ r j. h.at_record r j ∙ ap (λ p. one (anywhere p (clade o r))) (fun_ext (λ q. sym (step_alike s i e q)));
       })
 
   module _ (linked : Linked o) {parents : List ℕ} (ps : Parents o parents) where
-    pub gathering-holds : (r : ℕ) {held new : List ℕ} → Gathering o s r held → r ≤ size o → chosen s r ≡ true → Joined parents r held new
+    pub gathering_holds : (r : ℕ) {held new : List ℕ} → Gathering o s r held → r ≤ size o → chosen s r ≡ true → Joined parents r held new
         → Gathering o s (r + 1) new
-    gathering-holds zero g u e h = absurd (omega (arith, g.low))
-    gathering-holds (suc i) g u e h =
+    gathering_holds zero g u e h = absurd (omega (arith, g.low))
+    gathering_holds (suc i) g u e h =
         let j : IsRecord o (suc i) = record { low = omega arith; high = u } in
-        gathered i (held-joined linked ps j (prefix-with o s i e) (marks-before i g) h)
+        gathered i (held_joined linked ps j (prefix_with o s i e) (marks_before i g) h)
 
-  pub gathering-ends : {r : ℕ} {held : List ℕ} → Gathering o s r held → length s < r → HeldIn o s held
-  gathering-ends {r} {held} g h = rw (take_all (r - 1) s (omega arith)) at g.held-are
+  pub gathering_ends : {r : ℕ} {held : List ℕ} → Gathering o s r held → length s < r → HeldIn o s held
+  gathering_ends {r} {held} g h = rw (take_all (r - 1) s (omega arith)) at g.held_are

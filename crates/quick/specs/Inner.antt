@@ -3,15 +3,15 @@ use Rattle.std.specs.Prelude.{if◌then◌else◌, ℕ, ◌+◌, ◌≤◌, ◌<
 use Rattle.lists.specs.Lists.{one}
 use Rattle.refusals.specs.Reply.{Reply, granted}
 use Rattle.outline.specs.Inner.{numbers}
-use Rattle.outline.specs.Outline.{size, branch, price, isTaxon, IsRecord}
+use Rattle.outline.specs.Outline.{size, branch, price, is_taxon, IsRecord}
 use Rattle.outline.specs.WellFormed.{WellFormed}
-use Rattle.outline.specs.Rules.{mostRecords}
+use Rattle.outline.specs.Rules.{most_records}
 use Rattle.diversity.specs.Diversity.{chosen, within, diversity, cost}
 use Rattle.diversity.specs.Behind.{IsSet, Fits}
 use Rattle.diversity.specs.Paths.{Parent}
-use Rattle.laws.specs.Locks.{lockedSet}
-use Rattle.quick.specs.Quick.{added, addedCost, inHand, picked, afterPicks, quick}
-use Rattle.quick.specs.Answer.{Figures, figuresOf}
+use Rattle.laws.specs.Locks.{locked_set}
+use Rattle.quick.specs.Quick.{added, added_cost, in_hand, picked, after_picks, quick}
+use Rattle.quick.specs.Answer.{Figures, figures_of}
 use Rattle.quick.specs.declared.picker.Pick.{Pick}
 use Rattle.quick.specs.declared.sums.Sums.{Sums}
 
@@ -19,7 +19,7 @@ use Rattle.quick.specs.declared.sums.Sums.{Sums}
 -- a table has the parent of each record
 pub record Parents (o parents : List ℕ) : Type 0 where
   pub long : length parents ≡ numbers
-  pub at-record : (r : ℕ) → IsRecord o r → Parent o (get_or parents r 0) r
+  pub at_record : (r : ℕ) → IsRecord o r → Parent o (get_or parents r 0) r
 
 -- of the records up to n each has its parent before it
 abbrev pub Earlier : ℕ → List ℕ → Type 0
@@ -34,7 +34,7 @@ pub data Up (parents : List ℕ) (t : ℕ) : ℕ → Type 0 where
 -- a table has 1 for the records that have a taxon of the set at or below them, and 0 for the others
 pub record HeldIn (o s held : List ℕ) : Type 0 where
   pub long : length held ≡ numbers
-  pub at-record : (r : ℕ) → IsRecord o r → get_or held r 0 ≡ one (within o s r)
+  pub at_record : (r : ℕ) → IsRecord o r → get_or held r 0 ≡ one (within o s r)
 
 -- a way up that can be gone: above a record that is held each is held
 pub record Rising (parents : List ℕ) (t : ℕ) (held : List ℕ) : Type 0 where
@@ -55,17 +55,17 @@ pub record Joined (parents : List ℕ) (t : ℕ) (old new : List ℕ) : Type 0 w
 -- an accepted outline, and the marks of a set of taxa, one for each record
 pub record Markable (o s : List ℕ) : Type 0 where
   pub formed : WellFormed o
-  pub is-set : IsSet o s
+  pub is_set : IsSet o s
 
 -- with the way up from each record
 pub record HasParents (o s parents : List ℕ) : Type 0 where
   pub base : Markable o s
-  pub parents-are : Parents o parents
+  pub parents_are : Parents o parents
 
 -- and the records that the set holds
 pub record HasHeld (o s parents held : List ℕ) : Type 0 where
   pub base : HasParents o s parents
-  pub held-are : HeldIn o s held
+  pub held_are : HeldIn o s held
 
 -- ---- what a record would add
 -- a table has the gains of the records before r, and nothing else
@@ -77,71 +77,71 @@ pub record GainsUpTo (gain : ℕ → ℕ) (r : ℕ) (table : List ℕ) : Type 0 
 
 -- in diversity, and in quarters
 pub record SumsUpTo (o s : List ℕ) (r : ℕ) (sums : Sums) : Type 0 where
-  pub added-are : GainsUpTo (added o s) r sums.added
-  pub costs-are : GainsUpTo (addedCost o s) r sums.costs
+  pub added_are : GainsUpTo (added o s) r sums.added
+  pub costs_are : GainsUpTo (added_cost o s) r sums.costs
 
 -- nothing yet
 pub record NoSums (sums : Sums) : Type 0 where
-  pub added-are : sums.added ≡ replicate numbers 0
-  pub costs-are : sums.costs ≡ replicate numbers 0
+  pub added_are : sums.added ≡ replicate numbers 0
+  pub costs_are : sums.costs ≡ replicate numbers 0
 
 -- both tables have a number for each record
 pub record SumsLong (sums : Sums) : Type 0 where
-  pub added-long : length sums.added ≡ numbers
-  pub costs-long : length sums.costs ≡ numbers
+  pub added_long : length sums.added ≡ numbers
+  pub costs_long : length sums.costs ≡ numbers
 
 -- record r's branch and price can be added to what its parent adds
 pub record CanAdd (o parents : List ℕ) (sums : Sums) (r : ℕ) : Type 0 where
-  pub few : size o ≤ mostRecords
-  pub is-record : IsRecord o r
-  pub parent-before : get_or parents r 0 < r
+  pub few : size o ≤ most_records
+  pub is_record : IsRecord o r
+  pub parent_before : get_or parents r 0 < r
   pub lengths : SumsLong sums
-  pub added-fits : get_or sums.added (get_or parents r 0) 0 + branch o r < 2 ^ 32
-  pub costs-fit : get_or sums.costs (get_or parents r 0) 0 + price o r < 2 ^ 32
+  pub added_fits : get_or sums.added (get_or parents r 0) 0 + branch o r < 2 ^ 32
+  pub costs_fit : get_or sums.costs (get_or parents r 0) 0 + price o r < 2 ^ 32
 
 -- and are
 pub record AddedUp (o parents : List ℕ) (r : ℕ) (old new : Sums) : Type 0 where
-  pub added-set : new.added ≡ set old.added r (get_or old.added (get_or parents r 0) 0 + branch o r)
-  pub costs-set : new.costs ≡ set old.costs r (get_or old.costs (get_or parents r 0) 0 + price o r)
+  pub added_set : new.added ≡ set old.added r (get_or old.added (get_or parents r 0) 0 + branch o r)
+  pub costs_set : new.costs ≡ set old.costs r (get_or old.costs (get_or parents r 0) 0 + price o r)
 
 -- ---- one pick
 -- t is picked rather than u, by what they add
-abbrev pub ratherBy : ℕ → ℕ → ℕ → ℕ → ℕ → ℕ → Bool
-ratherBy at au ct cu t u = ltb au at || (eqb at au && (ltb ct cu || (eqb ct cu && ltb t u)))
+abbrev pub rather_by : ℕ → ℕ → ℕ → ℕ → ℕ → ℕ → Bool
+rather_by at au ct cu t u = ltb au at || (eqb at au && (ltb ct cu || (eqb ct cu && ltb t u)))
 
 -- two tables have what record t would add
 abbrev pub Known : List ℕ → List ℕ → Sums → ℕ → Type 0
-Known o s sums t = (get_or sums.added t 0 ≡ added o s t) × (get_or sums.costs t 0 ≡ addedCost o s t)
+Known o s sums t = (get_or sums.added t 0 ≡ added o s t) × (get_or sums.costs t 0 ≡ added_cost o s t)
 
 pub record KnownAt (o s : List ℕ) (sums : Sums) (t : ℕ) : Type 0 where
   pub base : Markable o s
-  pub is-record : IsRecord o t
+  pub is_record : IsRecord o t
   pub lengths : SumsLong sums
   pub known : Known o s sums t
 
 -- and what the record in hand would, if one is
 pub record HandAt (o s : List ℕ) (sums : Sums) (hand t : ℕ) : Type 0 where
   pub at : KnownAt o s sums t
-  pub hand-most : hand ≤ size o
-  pub hand-known : 1 ≤ hand → Known o s sums hand
+  pub hand_most : hand ≤ size o
+  pub hand_known : 1 ≤ hand → Known o s sums hand
 
 -- record r is the next to be looked at
 pub record LookAt (o s parents held : List ℕ) (sums : Sums) (hand r : ℕ) : Type 0 where
   pub ready : HasHeld o s parents held
-  pub is-record : IsRecord o r
-  pub sums-are : SumsUpTo o s r sums
-  pub hand-before : hand < r
+  pub is_record : IsRecord o r
+  pub sums_are : SumsUpTo o s r sums
+  pub hand_before : hand < r
 
 -- it was, and v is in hand
 pub record LookedAt (o s : List ℕ) (b : ℕ) (sums : Sums) (hand r v : ℕ) : Type 0 where
-  pub hand-is : v ≡ inHand o b s hand r
-  pub sums-are : SumsUpTo o s (r + 1) sums
+  pub hand_is : v ≡ in_hand o b s hand r
+  pub sums_are : SumsUpTo o s (r + 1) sums
 
 -- the next pick, and the quarters that it adds
 pub record NextPick (o : List ℕ) (b : ℕ) (s : List ℕ) (p : Pick) : Type 0 where
-  pub taxon-is : p.taxon ≡ picked o b s
-  pub taxon-most : p.taxon ≤ size o
-  pub quarters-are : 1 ≤ p.taxon → p.quarters ≡ addedCost o s p.taxon
+  pub taxon_is : p.taxon ≡ picked o b s
+  pub taxon_most : p.taxon ≤ size o
+  pub quarters_are : 1 ≤ p.taxon → p.quarters ≡ added_cost o s p.taxon
 
 -- ---- the picks
 -- a set that fits page count b
@@ -151,32 +151,32 @@ pub record PicksFit (o parents : List ℕ) (b : ℕ) (s held : List ℕ) : Type 
 
 -- the set after at most k picks
 pub record PicksDone (o : List ℕ) (b k : ℕ) (s after held : List ℕ) : Type 0 where
-  pub set-is : after ≡ afterPicks o b k s
-  pub held-are : HeldIn o after held
+  pub set_is : after ≡ after_picks o b k s
+  pub held_are : HeldIn o after held
 
 -- ---- the ceiling
 -- what record t counts for in it
-abbrev pub ceilingPart : List ℕ → ℕ → List ℕ → ℕ → ℕ
-ceilingPart o b s t = if isTaxon o t && (not (chosen s t) && leb (price o t) b) then added o s t else 0
+abbrev pub ceiling_part : List ℕ → ℕ → List ℕ → ℕ → ℕ
+ceiling_part o b s t = if is_taxon o t && (not (chosen s t) && leb (price o t) b) then added o s t else 0
 
 -- record r was looked at, and counts for v
 pub record PartAt (o : List ℕ) (b : ℕ) (s : List ℕ) (sums : Sums) (r v : ℕ) : Type 0 where
-  pub part-is : v ≡ ceilingPart o b s r
-  pub sums-are : SumsUpTo o s (r + 1) sums
+  pub part_is : v ≡ ceiling_part o b s r
+  pub sums_are : SumsUpTo o s (r + 1) sums
 
 -- a marked set, with its diversity
 pub record Bounded (o s parents held : List ℕ) (d : ℕ) : Type 0 where
   pub ready : HasHeld o s parents held
-  pub diversity-is : d ≡ diversity o 0 s
+  pub diversity_is : d ≡ diversity o 0 s
 
 -- ---- a choice
 -- a mark for each record, and locked taxa that fit
 pub record Fillable (o : List ℕ) (b : ℕ) (marks : List ℕ) : Type 0 where
   pub formed : WellFormed o
   pub long : length marks ≡ size o
-  pub locked-fit : cost o (lockedSet o) ≤ b
+  pub locked_fit : cost o (locked_set o) ≤ b
 
 -- what marking and measuring the choice gives
 pub record Filled (o : List ℕ) (b k : ℕ) (r : Reply Figures) (marks : List ℕ) : Type 0 where
-  pub told-granted : r ≡ granted (figuresOf o b (quick o b k))
-  pub marks-are : marks ≡ quick o b k
+  pub told_granted : r ≡ granted (figures_of o b (quick o b k))
+  pub marks_are : marks ≡ quick o b k

@@ -3,7 +3,7 @@ ghost use Rattle.std.specs.Prelude.{◌≡◌};
 ghost use Rattle.lists.specs.Lists.{total};
 ghost use Rattle.outline.specs.Outline.{records};
 ghost use Rattle.quick.specs.Quick.{ceiling};
-ghost use Rattle.quick.specs.Inner.{ceilingPart, LookAt, PartAt, HasHeld, Bounded};
+ghost use Rattle.quick.specs.Inner.{ceiling_part, LookAt, PartAt, HasHeld, Bounded};
 
 use super::sums::{Sums, add_up, no_sums};
 use outline::fields::{is_taxon, price_of};
@@ -42,7 +42,7 @@ fn parts_of(
     count: u32,
 ) -> u64
     requires { HasHeld o.now marks.now parents.now held.now }
-    ensures { result ≡ total (ceilingPart o.now count marks.now) (records o.now) }
+    ensures { result ≡ total (ceiling_part o.now count marks.now) (records o.now) }
 {
     let n = o.len() / 16;
     let mut sums = no_sums();

@@ -3,8 +3,8 @@
 ghost use Rattle.std.specs.Prelude.{◌≡◌, ◌+◌, ◌<◌, get_or};
 ghost use Rattle.outline.specs.Inner.{numbers};
 ghost use Rattle.diversity.specs.Diversity.{cost};
-ghost use Rattle.quick.specs.Quick.{canPick, inHand};
-ghost use Rattle.quick.specs.Inner.{ratherBy, SumsLong, KnownAt, HandAt, LookAt, LookedAt, HasHeld, NextPick};
+ghost use Rattle.quick.specs.Quick.{can_pick, in_hand};
+ghost use Rattle.quick.specs.Inner.{rather_by, SumsLong, KnownAt, HandAt, LookAt, LookedAt, HasHeld, NextPick};
 
 use super::sums::{Sums, add_up, no_sums};
 use outline::fields::is_taxon;
@@ -13,7 +13,7 @@ use outline::limits::NUMBERS;
 // Whether record t is picked rather than u.
 fn rather(sums: &Sums, t: usize, u: usize) -> bool
     requires { SumsLong sums.now × ((t < numbers) × (u < numbers)) }
-    ensures { result ≡ ratherBy
+    ensures { result ≡ rather_by
         (get_or sums.now.added t 0) (get_or sums.now.added u 0)
         (get_or sums.now.costs t 0) (get_or sums.now.costs u 0) t u }
 {
@@ -24,7 +24,7 @@ fn rather(sums: &Sums, t: usize, u: usize) -> bool
 // Whether record t is a taxon that is not in the set, still fits with its headings, and adds more than 0.
 fn can_pick(o: &[u8], marks: &[u8], room: u32, sums: &Sums, t: usize) -> bool
     requires { KnownAt o.now marks.now sums.now t }
-    ensures { result ≡ canPick o.now (cost o.now marks.now + room) marks.now t }
+    ensures { result ≡ can_pick o.now (cost o.now marks.now + room) marks.now t }
 {
     let open = marks[t - 1] != 1;
     is_taxon(o, t) & (open & ((sums.costs[t] <= room) & (0 < sums.added[t])))
@@ -33,7 +33,7 @@ fn can_pick(o: &[u8], marks: &[u8], room: u32, sums: &Sums, t: usize) -> bool
 // The record in hand, after record t was looked at; 0 for none.
 fn in_hand(o: &[u8], marks: &[u8], room: u32, sums: &Sums, hand: usize, t: usize) -> usize
     requires { HandAt o.now marks.now sums.now hand t }
-    ensures { result ≡ inHand o.now (cost o.now marks.now + room) marks.now hand t }
+    ensures { result ≡ in_hand o.now (cost o.now marks.now + room) marks.now hand t }
 {
     if can_pick(o, marks, room, sums, t) & ((hand == 0) | rather(sums, t, hand)) {
         return t;

@@ -7,25 +7,25 @@ use native.Mathlib.Omega.{arith}
 use Rattle.newick.specs.Parsing.{nothing, ends}
 use Rattle.newick.specs.Inner.{ahead, before, Met}
 use Rattle.newick.specs.declared.token.Token.{Token}
-use Rattle.reading.proofs.Meeting.{met-shows}
+use Rattle.reading.proofs.Meeting.{met_shows}
 
-no-semicolon : (t : Token) → (t ≡ Token.Semicolon → ⊥) → (ts : List Token) → ends (before t ts) ≡ false
+no_semicolon : (t : Token) → (t ≡ Token.Semicolon → ⊥) → (ts : List Token) → ends (before t ts) ≡ false
 unfolding ends
-no-semicolon Token.Open o ts = refl
-no-semicolon Token.Close o ts = refl
-no-semicolon Token.Comma o ts = refl
-no-semicolon Token.Colon o ts = refl
-no-semicolon Token.Semicolon o ts = absurd (o refl)
-no-semicolon (Token.Number l) o ts = refl
-no-semicolon Token.Other o ts = refl
-no-semicolon Token.End o ts = refl
+no_semicolon Token.Open o ts = refl
+no_semicolon Token.Close o ts = refl
+no_semicolon Token.Comma o ts = refl
+no_semicolon Token.Colon o ts = refl
+no_semicolon Token.Semicolon o ts = absurd (o refl)
+no_semicolon (Token.Number l) o ts = refl
+no_semicolon Token.Other o ts = refl
+no_semicolon Token.End o ts = refl
 
 module _ {text : List ℕ} {at end : ℕ} {s : Token} (m : Met text at s end) where
   -- a semicolon, and what is after it
-  pub after-semicolon : s ≡ Token.Semicolon → {v : Bool} → v ≡ nothing (ahead text end) → v ≡ ends (ahead text at)
+  pub after_semicolon : s ≡ Token.Semicolon → {v : Bool} → v ≡ nothing (ahead text end) → v ≡ ends (ahead text at)
   unfolding ends
-  after-semicolon e h = h ∙ sym (ap ends (met-shows Token.Semicolon m e (omega arith)))
+  after_semicolon e h = h ∙ sym (ap ends (met_shows Token.Semicolon m e (omega arith)))
 
   -- no semicolon
-  pub not-ended : (s ≡ Token.Semicolon → ⊥) → false ≡ ends (ahead text at)
-  not-ended o = sym (ap ends m.shows ∙ no-semicolon s o m.later)
+  pub not_ended : (s ≡ Token.Semicolon → ⊥) → false ≡ ends (ahead text at)
+  not_ended o = sym (ap ends m.shows ∙ no_semicolon s o m.later)

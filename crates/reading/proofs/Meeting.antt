@@ -8,15 +8,15 @@ use Rattle.reading.specs.declared.cursor.Cursor.{Cursor}
 use Rattle.newick.specs.declared.token.Token.{Token}
 
 -- a token that is known
-pub met-is : {text : List ℕ} {at end : ℕ} {s : Token} (t : Token) → Met text at s end → s ≡ t → Met text at t end
-met-is {text} {at} {end} t m e = subst (λ u. Met text at u end) e m
+pub met_is : {text : List ℕ} {at end : ℕ} {s : Token} (t : Token) → Met text at s end → s ≡ t → Met text at t end
+met_is {text} {at} {end} t m e = subst (λ u. Met text at u end) e m
 
 -- what is ahead begins with the token
-pub met-shows : {text : List ℕ} {at end : ℕ} {s : Token} (t : Token) → Met text at s end → s ≡ t → 0 < least t
+pub met_shows : {text : List ℕ} {at end : ℕ} {s : Token} (t : Token) → Met text at s end → s ≡ t → 0 < least t
     → ahead text at ≡ before t (ahead text end)
-met-shows t m e l = let k = met-is t m e in k.shows ∙ ap (before t) (k.follows l)
+met_shows t m e l = let k = met_is t m e in k.shows ∙ ap (before t) (k.follows l)
 
 -- where a record begins, what is ahead stays
-pub begun-shows : {text : List ℕ} {at : ℕ} {past to : Cursor} {s : Token} (t : Token) → Met text at s past.at → s ≡ t → 0 < least t → Begun past to
+pub begun_shows : {text : List ℕ} {at : ℕ} {past to : Cursor} {s : Token} (t : Token) → Met text at s past.at → s ≡ t → 0 < least t → Begun past to
     → ahead text at ≡ before t (ahead text to.at)
-begun-shows {text} t m e l b = met-shows t m e l ∙ ap (λ a. before t (ahead text a)) (sym b.stays)
+begun_shows {text} t m e l b = met_shows t m e l ∙ ap (λ a. before t (ahead text a)) (sym b.stays)

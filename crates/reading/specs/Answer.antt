@@ -2,12 +2,12 @@
 use Rattle.std.specs.Prelude.{ℕ, ◌*◌, ◌<◌, ◌≡◌, true, List, [], ◌∷◌, length, get_or, ltb}
 use Rattle.refusals.specs.Refusals.{Ruling, refusal, row, ◌▸◌, after}
 use Rattle.refusals.specs.Reply.{Reply, granted, refused, replied}
-use Rattle.outline.specs.Answer.{recordRows}
+use Rattle.outline.specs.Answer.{record_rows}
 use Rattle.newick.specs.Layout.{count, plates, layout}
-use Rattle.newick.specs.Pairs.{priceIn, badPairs}
+use Rattle.newick.specs.Pairs.{price_in, bad_pairs}
 use Rattle.newick.specs.Parsing.{Parsed, unread, tree, parsed}
 use Rattle.reading.specs.declared.answer.Answer.{Answer}
-use Rattle.outline.specs.Rules.{mostRecords}
+use Rattle.outline.specs.Rules.{most_records}
 
 -- a call: the text, the prices beside it, and the lent outline as it came in
 pub record Call : Type 0 where
@@ -26,48 +26,48 @@ abbrev pub counted : ℕ → Figures
 counted n = record { records = n }
 
 -- a refusal gives N as 0
-abbrev pub noFigures : Figures
-noFigures = counted 0
+abbrev pub no_figures : Figures
+no_figures = counted 0
 
-abbrev pub numbersOf : Figures → List ℕ
-numbersOf f = f.records ∷ []
+abbrev pub numbers_of : Figures → List ℕ
+numbers_of f = f.records ∷ []
 
 -- the numbers of each answer
 abbrev pub told : Answer → Reply Figures
 told (Answer.Read n) = granted (counted n)
-told (Answer.Refused e) = refused noFigures (refusal e)
+told (Answer.Refused e) = refused no_figures (refusal e)
 
 -- the rows for the tree of a text, the pairs and a buffer of so many bytes, in their order: 10, 3, 11, 9, then 5 to 8
-unfoldable pub rowsFor : Parsed → List ℕ → ℕ → Ruling
-rowsFor unread pairs room = row 10 true
-rowsFor (tree t) pairs room =
-    row 3 (ltb mostRecords (count t))
-    ▸ row 11 (badPairs (plates t) pairs)
+unfoldable pub rows_for : Parsed → List ℕ → ℕ → Ruling
+rows_for unread pairs room = row 10 true
+rows_for (tree t) pairs room =
+    row 3 (ltb most_records (count t))
+    ▸ row 11 (bad_pairs (plates t) pairs)
     ▸ row 9 (ltb room (16 * count t))
-    ▸ recordRows (layout (priceIn pairs) t)
+    ▸ record_rows (layout (price_in pairs) t)
 
 unfoldable pub judged : Call → Ruling
-judged c = rowsFor (parsed c.text) c.pairs (length c.outline)
+judged c = rows_for (parsed c.text) c.pairs (length c.outline)
 
 -- N, and the outline with its prices
-abbrev pub countOf : Parsed → ℕ
-countOf unread = 0
-countOf (tree t) = count t
+abbrev pub count_of : Parsed → ℕ
+count_of unread = 0
+count_of (tree t) = count t
 
-abbrev pub outlineOf : List ℕ → Parsed → List ℕ
-outlineOf pairs unread = []
-outlineOf pairs (tree t) = layout (priceIn pairs) t
+abbrev pub outline_of : List ℕ → Parsed → List ℕ
+outline_of pairs unread = []
+outline_of pairs (tree t) = layout (price_in pairs) t
 
 abbrev pub figures : Call → Figures
-figures c = counted (countOf (parsed c.text))
+figures c = counted (count_of (parsed c.text))
 
 -- what a call is told
 unfoldable pub reply : Call → Reply Figures
-reply c = replied noFigures (judged c) (figures c)
+reply c = replied no_figures (judged c) (figures c)
 
 -- the outline after a call: written where no row holds, and what is past the N records is unchanged
-unfoldable pub outlineAfter : Call → List ℕ
-outlineAfter c = after (judged c) (outlineOf c.pairs (parsed c.text)) c.outline
+unfoldable pub outline_after : Call → List ℕ
+outline_after c = after (judged c) (outline_of c.pairs (parsed c.text)) c.outline
 
 -- a list of 32-bit numbers
 pub record Numbers (ns : List ℕ) : Type 0 where
@@ -76,6 +76,6 @@ pub record Numbers (ns : List ℕ) : Type 0 where
 -- what a call ensures, of the numbers that it is told and of the outline as it leaves it; and that its pairs are 32-bit numbers, as
 -- those of every `&[u32]` are
 pub record Answered (c : Call) (r : Reply Figures) (outline : List ℕ) : Type 0 where
-  pub told-reply : r ≡ reply c
-  pub outline-written : outline ≡ outlineAfter c
-  pub pairs-numbers : Numbers c.pairs
+  pub told_reply : r ≡ reply c
+  pub outline_written : outline ≡ outline_after c
+  pub pairs_numbers : Numbers c.pairs

@@ -1,28 +1,28 @@
 -- Going through a text once: what is left of the reading, inside of open lists.
 use Rattle.std.specs.Prelude.{ℕ, ◌+◌, ◌*◌, ◌≤◌, ◌≡◌, Bool, true, false, List, length}
 use Rattle.newick.specs.Grammar.{part, chain, Tree}
-use Rattle.newick.specs.Parsing.{Outcome, failed, got, withLength, partFrom, chainFrom, readIn, Parsed, unread, tree, closed, grown}
+use Rattle.newick.specs.Parsing.{Outcome, failed, got, with_length, part_from, chain_from, read_in, Parsed, unread, tree, closed, grown}
 use Rattle.newick.specs.Inner.{ahead, Met}
 use Rattle.reading.specs.Inner.{left}
 use Rattle.reading.specs.declared.scan.Turn.{Turn}
 use Rattle.newick.specs.declared.token.Token.{Token}
 
 -- a tree is there
-abbrev pub isTree : Parsed → Bool
-isTree unread = false
-isTree (tree t) = true
+abbrev pub is_tree : Parsed → Bool
+is_tree unread = false
+is_tree (tree t) = true
 
 -- a list becomes a part, as its length is read
-abbrev pub groupedAs : (Tree chain → ℕ → Tree part) → Outcome chain → Outcome part
-groupedAs made failed = failed
-groupedAs made (got ms ts) = withLength (made ms) ts
+abbrev pub grouped_as : (Tree chain → ℕ → Tree part) → Outcome chain → Outcome part
+grouped_as made failed = failed
+grouped_as made (got ms ts) = with_length (made ms) ts
 
 -- so many open lists, with calls left for n bytes, and what comes of a part inside of them: each list becomes a part, made of the
 -- members to come and a length
 pub data Lists (n : ℕ) : ℕ → (Outcome part → Parsed) → Type 0 where
-  no-list : Lists n 0 closed
-  a-list : {d : ℕ} {onward : Outcome part → Parsed} (calls : ℕ) → 2 * n ≤ calls → (made : Tree chain → ℕ → Tree part) → Lists n d onward
-      → Lists n (d + 1) (λ o. onward (groupedAs made (chainFrom (readIn calls chain) o)))
+  no_list : Lists n 0 closed
+  a_list : {d : ℕ} {onward : Outcome part → Parsed} (calls : ℕ) → 2 * n ≤ calls → (made : Tree chain → ℕ → Tree part) → Lists n d onward
+      → Lists n (d + 1) (λ o. onward (grouped_as made (chain_from (read_in calls chain) o)))
 
 -- a place inside of so many open lists, and what is read there
 pub record Inside (text : List ℕ) (at : ℕ) (depth : ℕ) (o : Outcome part) : Type 0 where
@@ -36,12 +36,12 @@ pub record Inside (text : List ℕ) (at : ℕ) (depth : ℕ) (o : Outcome part) 
 pub record Wanted (text : List ℕ) (at : ℕ) (depth : ℕ) : Type 0 where
   pub calls : ℕ
   pub many : 2 * left text at ≤ calls
-  pub inside : Inside text at depth (partFrom (readIn calls chain) (ahead text at))
+  pub inside : Inside text at depth (part_from (read_in calls chain) (ahead text at))
 
 -- a part is taken there, but for its length
 pub record Taken (text : List ℕ) (at depth : ℕ) : Type 0 where
   pub made : ℕ → Tree part
-  pub inside : Inside text at depth (withLength made (ahead text at))
+  pub inside : Inside text at depth (with_length made (ahead text at))
 
 -- a part is taken there with its length
 pub record Sized (text : List ℕ) (at depth : ℕ) : Type 0 where
@@ -50,8 +50,8 @@ pub record Sized (text : List ℕ) (at depth : ℕ) : Type 0 where
 
 -- what is known after a turn
 abbrev pub Known : List ℕ → Turn → Type 0
-Known text Turn.Bad = false ≡ isTree (grown text)
-Known text Turn.End = true ≡ isTree (grown text)
+Known text Turn.Bad = false ≡ is_tree (grown text)
+Known text Turn.End = true ≡ is_tree (grown text)
 Known text (Turn.Wanted at depth) = Wanted text at depth
 Known text (Turn.Taken at depth) = Taken text at depth
 Known text (Turn.Sized at depth) = Sized text at depth

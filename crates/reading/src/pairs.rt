@@ -2,8 +2,8 @@
 ghost use Rattle.std.specs.Prelude.{◌≡◌};
 ghost use Rattle.lists.specs.Lists.{anywhere};
 ghost use Rattle.outline.specs.Outline.{records, IsRecord};
-ghost use Rattle.newick.specs.Pairs.{priceIn, pairsOf, paired, badPairs};
-ghost use Rattle.newick.specs.Inner.{platesOf};
+ghost use Rattle.newick.specs.Pairs.{price_in, pairs_of, paired, bad_pairs};
+ghost use Rattle.newick.specs.Inner.{plates_of};
 ghost use Rattle.reading.specs.Inner.{unpaired, unmatched};
 
 use outline::fields::{is_taxon, plate_of};
@@ -11,7 +11,7 @@ use outline::rules::holder_of;
 
 // The price of the first pair of a plate, 0 if there is none.
 pub fn price_in(pairs: &[u32], plate: u32) -> u32
-    ensures { result ≡ priceIn pairs.now plate }
+    ensures { result ≡ price_in pairs.now plate }
 {
     let mut i = 0;
     while i + 1 < pairs.len() {
@@ -25,7 +25,7 @@ pub fn price_in(pairs: &[u32], plate: u32) -> u32
 
 // How many pairs a plate has.
 fn pairs_of(pairs: &[u32], plate: u32) -> usize
-    ensures { result ≡ pairsOf pairs.now plate }
+    ensures { result ≡ pairs_of pairs.now plate }
 {
     let mut sum = 0;
     let mut i = 0;
@@ -79,7 +79,7 @@ fn any_unmatched(o: &[u8], pairs: &[u32]) -> bool
 
 // Whether the pairs are not those of the taxa.
 pub fn bad_pairs(o: &[u8], pairs: &[u32]) -> bool
-    ensures { result ≡ badPairs (platesOf o.now) pairs.now }
+    ensures { result ≡ bad_pairs (plates_of o.now) pairs.now }
 {
     if pairs.len() % 2 != 0 {
         return true;

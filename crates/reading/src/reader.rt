@@ -1,8 +1,8 @@
 // Reading a text: the tree, and the outline that is made of it.
 ghost use Rattle.std.specs.Prelude.{◌≡◌, ◌≤◌, length};
-ghost use Rattle.newick.specs.Grammar.{mostBytes};
+ghost use Rattle.newick.specs.Grammar.{most_bytes};
 ghost use Rattle.reading.specs.Answer.{call, told, Answered};
-ghost use Rattle.reading.specs.Inner.{draftSize, TreeRead, Whole, TreePlaced};
+ghost use Rattle.reading.specs.Inner.{draft_size, TreeRead, Whole, TreePlaced};
 
 use super::answer::Answer;
 use super::cursor::Cursor;
@@ -26,7 +26,7 @@ enum Draft {
 
 // Drafts the records of a text's tree.
 fn read_tree(text: &[u8], pairs: &[u32], draft: &mut [u8]) -> Draft
-    requires { length draft.old ≡ draftSize }
+    requires { length draft.old ≡ draft_size }
     ensures { TreeRead pairs.now text.now draft.old draft.new result }
 {
     let start = Cursor { at: 0, records: 0 };
@@ -72,7 +72,7 @@ fn place(o: &[u8], pairs: &[u32], outline: &mut [u8]) -> Answer
 
 // Reads a text that is not too long.
 fn read_short(text: &[u8], pairs: &[u32], outline: &mut [u8]) -> Answer
-    requires { length text.now ≤ mostBytes }
+    requires { length text.now ≤ most_bytes }
     ensures { Answered (call text.now pairs.now outline.old) (told result) outline.new }
 {
     let mut draft = [0u8; DRAFT];

@@ -3,7 +3,7 @@
 ghost use Rattle.std.specs.Prelude.{◌≡◌, ◌≤◌, length};
 ghost use Rattle.newick.specs.Inner.{ahead};
 ghost use Rattle.newick.specs.Parsing.{nothing, ends, grown};
-ghost use Rattle.reading.specs.Scan.{isTree, Wanted, Taken, Sized, Turned, Followed};
+ghost use Rattle.reading.specs.Scan.{is_tree, Wanted, Taken, Sized, Turned, Followed};
 
 use super::cursor::{Cursor, next};
 use super::part::{Length, number_after};
@@ -127,7 +127,7 @@ fn sized_at(text: &[u8], at: usize, depth: usize) -> Turn
 
 // Whether a text is a tree.
 pub fn is_tree(text: &[u8]) -> bool
-    ensures { result ≡ isTree (grown text.now) }
+    ensures { result ≡ is_tree (grown text.now) }
 {
     let mut turn = Turn::Wanted(0, 0);
     loop {

@@ -2,7 +2,7 @@
 // them; the rest of the buffer keeps what it holds.
 #![tactic(auto)]
 
-ghost use Rattle.outline.specs.Outline.{bytes, recordBytes};
+ghost use Rattle.outline.specs.Outline.{bytes, record_bytes};
 ghost use Rattle.text.specs.Written.{LongEnough, Written};
 
 // The two lower bytes of a number, the least significant first.
@@ -34,8 +34,8 @@ pub fn put_record(
     price: u32,
     plate: u32,
 ) -> usize
-    requires { LongEnough at (recordBytes next first branch price plate) buffer.old }
-    ensures { Written at (recordBytes next first branch price plate) buffer.old buffer.new result }
+    requires { LongEnough at (record_bytes next first branch price plate) buffer.old }
+    ensures { Written at (record_bytes next first branch price plate) buffer.old buffer.new result }
 {
     let to = put_short(buffer, at, next);
     let to = put_short(buffer, to, first);

@@ -49,8 +49,8 @@ abbrev pub row : ℕ → Bool → Ruling
 row n holds = if holds then ruling n 0 else passed
 
 -- a row whose place is the lowest of so many records at which its condition holds
-abbrev pub rowAt : ℕ → (ℕ → Bool) → ℕ → Ruling
-rowAt n holds size =
+abbrev pub row_at : ℕ → (ℕ → Bool) → ℕ → Ruling
+row_at n holds size =
     let place = lowest holds (from 1 size) in
     if eqb place 0 then passed else ruling n place
 

@@ -8,8 +8,8 @@ pub record Reply (Figures : Type 0) : Type 0 where
   pub figures : Figures
 
 -- its number and place
-abbrev pub rulingOf : {Figures : Type 0} → Reply Figures → Ruling
-rulingOf r = ruling r.number r.place
+abbrev pub ruling_of : {Figures : Type 0} → Reply Figures → Ruling
+ruling_of r = ruling r.number r.place
 
 -- no refusal, and the figures
 abbrev pub granted : {Figures : Type 0} → Figures → Reply Figures

@@ -19,8 +19,8 @@ pub record Row : Type 1 where
 abbrev pub whole : ℕ → Type 0 → Row
 whole n C = record { number = n; holds = λ p. (p ≡ 0) × C }
 
-abbrev pub lowestAt : ℕ → ℕ → (ℕ → Bool) → Row
-lowestAt n size condition = record { number = n; holds = LowestAt size condition }
+abbrev pub lowest_at : ℕ → ℕ → (ℕ → Bool) → Row
+lowest_at n size condition = record { number = n; holds = LowestAt size condition }
 
 -- no row of a table holds
 pub data NoRow : List Row → Type 1 where
@@ -35,13 +35,13 @@ pub data FirstRow : List Row → ℕ → ℕ → Type 1 where
 -- what a table gives: 0 and 0 where no row holds, else the number and the place of the first that does; no other number or
 -- place is the first's
 pub data Gives (rows : List Row) : Ruling → Type 1 where
-  gives-none : NoRow rows → Gives rows passed
-  gives-first : {n p : ℕ} → 1 ≤ n → FirstRow rows n p → ((m q : ℕ) → FirstRow rows m q → (m ≡ n) × (q ≡ p)) → Gives rows (ruling n p)
+  gives_none : NoRow rows → Gives rows passed
+  gives_first : {n p : ℕ} → 1 ≤ n → FirstRow rows n p → ((m q : ℕ) → FirstRow rows m q → (m ≡ n) × (q ≡ p)) → Gives rows (ruling n p)
 
 -- the mission's first demand, of a call's number and place, the other numbers that it is given, and the lent buffers before and
 -- after it: no refusal, or exactly one of the table, under its condition only; then the other numbers are 0, and no lent byte is
 -- changed
 pub record Decided (rows : List Row) (t : Ruling) (others : List ℕ) (before after : List (List ℕ)) : Type 1 where
   pub given : Gives rows t
-  pub others-zero : 1 ≤ t.number → others ≡ replicate (length others) 0
+  pub others_zero : 1 ≤ t.number → others ≡ replicate (length others) 0
   pub unchanged : 1 ≤ t.number → after ≡ before

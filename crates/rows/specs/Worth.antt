@@ -2,12 +2,12 @@
 use Rattle.std.specs.Prelude.{ℕ, Bool, List}
 use Rattle.laws.specs.Candidate.{Value}
 use Rattle.laws.specs.Forest.{Forest}
-use Rattle.laws.specs.Measures.{weightIn, locksIn, costIn, rootedIn, unrootedIn}
+use Rattle.laws.specs.Measures.{weight_in, locks_in, cost_in, rooted_in, unrooted_in}
 
 -- by rooted diversity
-abbrev pub rootedWorth : List ℕ → (ℕ → ℕ) → (ℕ → Bool) → Forest → Value
-rootedWorth o weigh p F = record { locked = locksIn o p F; diversity = rootedIn o p F; cost = costIn o p F; code = weightIn weigh p F }
+abbrev pub rooted_worth : List ℕ → (ℕ → ℕ) → (ℕ → Bool) → Forest → Value
+rooted_worth o weigh p F = record { locked = locks_in o p F; diversity = rooted_in o p F; cost = cost_in o p F; code = weight_in weigh p F }
 
 -- by unrooted diversity
-abbrev pub unrootedWorth : List ℕ → (ℕ → ℕ) → (ℕ → Bool) → Forest → Value
-unrootedWorth o weigh p F = record { locked = locksIn o p F; diversity = unrootedIn o p F; cost = costIn o p F; code = weightIn weigh p F }
+abbrev pub unrooted_worth : List ℕ → (ℕ → ℕ) → (ℕ → Bool) → Forest → Value
+unrooted_worth o weigh p F = record { locked = locks_in o p F; diversity = unrooted_in o p F; cost = cost_in o p F; code = weight_in weigh p F }

@@ -10,35 +10,35 @@ use lib.ListN.{length, get_or, set, replicate, length-set, length-replicate, get
 use lib.Seq.{get_or-set_same, get_or-set_other}
 use borrow.Author.Tests.{eqb-true, eqb-false, lt-ltb, le-ltb, ltb-true, ltb-false}
 use Rattle.lists.specs.Lists.{total}
-use Rattle.lists.proofs.Bools.{if-most}
-use Rattle.lists.proofs.Walk.{Summing, summing-starts, summing-goes, summing-ends}
+use Rattle.lists.proofs.Bools.{if_most}
+use Rattle.lists.proofs.Walk.{Summing, summing_starts, summing_goes, summing_ends}
 use Rattle.outline.specs.Inner.{numbers}
 use Rattle.outline.specs.Outline.{size, records, branch, price}
 use Rattle.diversity.specs.Diversity.{within, elsewhere, rooted, unrooted, diversity, cost}
-use Rattle.laws.proofs.Prefixes.{cost-nothing, diversity-nothing}
-use Rattle.sheet.specs.Sheet.{upTo, added}
-use Rattle.sheet.specs.Inner.{Since, priceCounts, branchCounts, Adds}
-use Rattle.outline.specs.Rules.{mostRecords}
+use Rattle.laws.proofs.Prefixes.{cost_nothing, diversity_nothing}
+use Rattle.sheet.specs.Sheet.{up_to, added}
+use Rattle.sheet.specs.Inner.{Since, price_counts, branch_counts, Adds}
+use Rattle.outline.specs.Rules.{most_records}
 
 -- the sum of a table's first k numbers
-unfoldable pub sumTo : List ℕ → ℕ → ℕ
-sumTo l zero = 0
-sumTo l (suc k) = sumTo l k + get_or l k 0
+unfoldable pub sum_to : List ℕ → ℕ → ℕ
+sum_to l zero = 0
+sum_to l (suc k) = sum_to l k + get_or l k 0
 
 -- v is added to the number at place x
 abbrev pub raised : List ℕ → ℕ → ℕ → List ℕ
 raised l x v = set l x (get_or l x 0 + v)
 
-raised-at : (l : List ℕ) (x v q : ℕ) → x < length l → get_or (raised l x v) q 0 ≡ get_or l q 0 + (if eqb q x then v else 0)
-raised-at l x v q h = go (eqb q x) refl
+raised_at : (l : List ℕ) (x v q : ℕ) → x < length l → get_or (raised l x v) q 0 ≡ get_or l q 0 + (if eqb q x then v else 0)
+raised_at l x v q h = go (eqb q x) refl
   where
     go : (b : Bool) → eqb q x ≡ b → get_or (raised l x v) q 0 ≡ get_or l q 0 + (if b then v else 0)
     go true e = let i = eqb-true q x e in rw (i, get_or-set_same l x (get_or l x 0 + v) 0 h)
     go false e = get_or-set_other l x q (get_or l x 0 + v) 0 (eqb-false q x e) ∙ omega arith
 
 -- place x is before k + 1: before k, or it is k
-before-next : (x v k : ℕ) → (if ltb x (suc k) then v else 0) ≡ (if ltb x k then v else 0) + (if eqb k x then v else 0)
-before-next x v k = go (ltb x k) refl (eqb k x) refl
+before_next : (x v k : ℕ) → (if ltb x (suc k) then v else 0) ≡ (if ltb x k then v else 0) + (if eqb k x then v else 0)
+before_next x v k = go (ltb x k) refl (eqb k x) refl
   where
     go : (b : Bool) → ltb x k ≡ b → (c : Bool) → eqb k x ≡ c → (if ltb x (suc k) then v else 0) ≡ (if b then v else 0) + (if c then v else 0)
     go true e true d = let h = ltb-true x k e in let i = eqb-true k x d in absurd (omega arith)
@@ -47,15 +47,15 @@ before-next x v k = go (ltb x k) refl (eqb k x) refl
     go false e false d = let h = ltb-false x k e in let i = eqb-false k x d in rw (le-ltb x (suc k) (omega arith)) (omega arith)
 
 -- so v is in the sums that go past place x
-sum-raised : (l : List ℕ) (x v k : ℕ) → x < length l → sumTo (raised l x v) k ≡ sumTo l k + (if ltb x k then v else 0)
-unfolding sumTo
-sum-raised l x v zero h = rw (le-ltb x 0 (omega arith)) (omega arith)
-sum-raised l x v (suc k) h = omega (arith, sum-raised l x v k h, raised-at l x v k h, before-next x v k)
+sum_raised : (l : List ℕ) (x v k : ℕ) → x < length l → sum_to (raised l x v) k ≡ sum_to l k + (if ltb x k then v else 0)
+unfolding sum_to
+sum_raised l x v zero h = rw (le-ltb x 0 (omega arith)) (omega arith)
+sum_raised l x v (suc k) h = omega (arith, sum_raised l x v k h, raised_at l x v k h, before_next x v k)
 
-sum-blank : (n k : ℕ) → k ≤ n → sumTo (replicate n 0) k ≡ 0
-unfolding sumTo
-sum-blank n zero h = refl
-sum-blank n (suc k) h = omega (arith, sum-blank n k (omega arith), get_or-replicate {A = ℕ} n k 0 0 h)
+sum_blank : (n k : ℕ) → k ≤ n → sum_to (replicate n 0) k ≡ 0
+unfolding sum_to
+sum_blank n zero h = refl
+sum_blank n (suc k) h = omega (arith, sum_blank n k (omega arith), get_or-replicate {A = ℕ} n k 0 0 h)
 
 -- ---- the weights of the records before r stand in the table; each is at most 1,000,000, so that no sum overflows
 abbrev heaviest : ℕ
@@ -70,61 +70,61 @@ module _ (weight : ℕ → ℕ) (counts : ℕ → ℕ → Bool) (n : ℕ) where
     pub low : 1 ≤ r
     pub long : length table ≡ numbers
     pub small : (t : ℕ) → t < numbers → get_or table t 0 ≤ heaviest * (r - 1)
-    pub sums : (k : ℕ) → 0 < k → k ≤ mostRecords → Summing heaviest (counted k) n (sumTo table k) r
+    pub sums : (k : ℕ) → 0 < k → k ≤ most_records → Summing heaviest (counted k) n (sum_to table k) r
 
-  pub adding-starts : Adding 1 (replicate numbers 0)
-  adding-starts = record {
+  pub adding_starts : Adding 1 (replicate numbers 0)
+  adding_starts = record {
     low = omega arith;
     long = length-replicate {A = ℕ} numbers 0;
     small = λ t h. omega (arith, get_or-replicate {A = ℕ} numbers t 0 0 h);
-    sums = λ k l u. rw (sum-blank numbers k (omega arith)) (summing-starts (counted k) n);
+    sums = λ k l u. rw (sum_blank numbers k (omega arith)) (summing_starts (counted k) n);
   }
 
   module _ {r : ℕ} {table : List ℕ} (a : Adding r table) (h : r ≤ n) {x v : ℕ} (since : Since x (counts r)) (is : v ≡ weight r) (few : v ≤ heaviest) where
     inside : x < length table
     inside = omega (arith, since.most, a.long)
 
-    pub adding-goes : Adding (r + 1) (raised table x v)
-    adding-goes = record {
+    pub adding_goes : Adding (r + 1) (raised table x v)
+    adding_goes = record {
       low = omega (arith, a.low);
       long = length-set table x _ ∙ a.long;
-      small = λ t i. omega (arith, a.small t i, raised-at table x v t inside, if-most (eqb t x) v, a.low);
+      small = λ t i. omega (arith, a.small t i, raised_at table x v t inside, if_most (eqb t x) v, a.low);
       sums = λ k l u.
-          rw (sum-raised table x v k inside)
-          (summing-goes (counted k) n (a.sums k l u) h
+          rw (sum_raised table x v k inside)
+          (summing_goes (counted k) n (a.sums k l u) h
           (ap₂ (λ b w. if b then w else 0) (since.each k l u) is)
-          (omega (arith, if-most (ltb x k) v)));
+          (omega (arith, if_most (ltb x k) v)));
     }
 
 -- ---- when all are in, the table has what each record adds
-module _ (measure : List ℕ → ℕ) (s table : List ℕ) (nothing : measure (upTo s 0) ≡ 0)
-    (sums : (k : ℕ) → 0 < k → k ≤ mostRecords → sumTo table k ≡ measure (upTo s k)) where
-  sum-is : (k : ℕ) → k ≤ mostRecords → sumTo table k ≡ measure (upTo s k)
-  unfolding sumTo
-  sum-is zero u = sym nothing
-  sum-is (suc k) u = sums (suc k) (omega arith) u
+module _ (measure : List ℕ → ℕ) (s table : List ℕ) (nothing : measure (up_to s 0) ≡ 0)
+    (sums : (k : ℕ) → 0 < k → k ≤ most_records → sum_to table k ≡ measure (up_to s k)) where
+  sum_is : (k : ℕ) → k ≤ most_records → sum_to table k ≡ measure (up_to s k)
+  unfolding sum_to
+  sum_is zero u = sym nothing
+  sum_is (suc k) u = sums (suc k) (omega arith) u
 
-  sums-add : (o : List ℕ) → size o ≤ mostRecords → Adds o measure s table
-  unfolding sumTo
-  sums-add o few = record { at-place = λ r i. go r i.low (omega (arith, i.high)) }
+  sums_add : (o : List ℕ) → size o ≤ most_records → Adds o measure s table
+  unfolding sum_to
+  sums_add o few = record { at_place = λ r i. go r i.low (omega (arith, i.high)) }
     where
-      go : (r : ℕ) → 1 ≤ r → r ≤ mostRecords → get_or table (r - 1) 0 ≡ added measure s r
+      go : (r : ℕ) → 1 ≤ r → r ≤ most_records → get_or table (r - 1) 0 ≡ added measure s r
       go zero l u = absurd (omega arith)
-      go (suc t) l u = let e : suc t - 1 ≡ t = omega arith in rw e (omega (arith, sum-is (suc t) u, sum-is t (omega arith)))
+      go (suc t) l u = let e : suc t - 1 ≡ t = omega arith in rw e (omega (arith, sum_is (suc t) u, sum_is t (omega arith)))
 
 -- prices sum up to the cost, branches to the diversity
-pub quarters-end : {o s : List ℕ} {r : ℕ} {table : List ℕ} → size o ≤ mostRecords → Adding (price o) (priceCounts o s) (size o) r table → size o < r
+pub quarters_end : {o s : List ℕ} {r : ℕ} {table : List ℕ} → size o ≤ most_records → Adding (price o) (price_counts o s) (size o) r table → size o < r
     → Adds o (cost o) s table
 unfolding cost records
-quarters-end {o} {s} {r} {table} few a h =
-    sums-add (cost o) s table (cost-nothing o) (λ k l u. summing-ends (λ q. if priceCounts o s q k then price o q else 0) (size o) (a.sums k l u) h) o few
+quarters_end {o} {s} {r} {table} few a h =
+    sums_add (cost o) s table (cost_nothing o) (λ k l u. summing_ends (λ q. if price_counts o s q k then price o q else 0) (size o) (a.sums k l u) h) o few
 
-pub diversity-end : {o s : List ℕ} (way : ℕ) {r : ℕ} {table : List ℕ} → size o ≤ mostRecords → Adding (branch o) (branchCounts o way s) (size o) r table
+pub diversity_end : {o s : List ℕ} (way : ℕ) {r : ℕ} {table : List ℕ} → size o ≤ most_records → Adding (branch o) (branch_counts o way s) (size o) r table
     → size o < r → Adds o (diversity o way) s table
 unfolding diversity rooted unrooted records
-diversity-end {o} {s} way {r} {table} few a h =
-    sums-add (diversity o way) s table (diversity-nothing o way)
-    (λ k l u. summing-ends (λ q. if branchCounts o way s q k then branch o q else 0) (size o) (a.sums k l u) h ∙ go (eqb way 0) (upTo s k)) o few
+diversity_end {o} {s} way {r} {table} few a h =
+    sums_add (diversity o way) s table (diversity_nothing o way)
+    (λ k l u. summing_ends (λ q. if branch_counts o way s q k then branch o q else 0) (size o) (a.sums k l u) h ∙ go (eqb way 0) (up_to s k)) o few
   where
     go : (b : Bool) (t : List ℕ) → total (λ q. if within o t q && (b || elsewhere o t q) then branch o q else 0) (records o) ≡ (if b then rooted o t else unrooted o t)
     go true t = simp and-true

@@ -5,30 +5,30 @@ use native.Mathlib.Omega.{arith}
 use lib.Dec.{eqb, ltb}
 use lib.ListN.{length}
 use borrow.Author.Tests.{eq-eqb}
-use Rattle.refusals.specs.Refusals.{row, rowAt}
-use Rattle.refusals.proofs.Placed.{Placed, row-placed, row-at-placed, then-placed}
-use Rattle.refusals.proofs.Replies.{told-place}
+use Rattle.refusals.specs.Refusals.{row, row_at}
+use Rattle.refusals.proofs.Placed.{Placed, row_placed, row_at_placed, then_placed}
+use Rattle.refusals.proofs.Replies.{told_place}
 use Rattle.outline.specs.Outline.{size}
 use Rattle.outline.specs.Answer.{checked}
-use Rattle.outline.proofs.WellFormed.{accepted-formed}
-use Rattle.outline.proofs.Placed.{checked-placed}
-use Rattle.sheet.specs.Answer.{Call, badMark, sheetTaken, judged, reply}
-use Rattle.outline.specs.Rules.{mostRecords}
+use Rattle.outline.proofs.WellFormed.{accepted_formed}
+use Rattle.outline.proofs.Placed.{checked_placed}
+use Rattle.sheet.specs.Answer.{Call, bad_mark, sheet_taken, judged, reply}
+use Rattle.outline.specs.Rules.{most_records}
 
 module _ (c : Call) where
-  judged-placed : Placed mostRecords (judged c)
+  judged_placed : Placed most_records (judged c)
   unfolding judged
-  judged-placed =
+  judged_placed =
       let o = c.outline in
       let unknown = not (eqb c.way 0) && not (eqb c.way 1) in
       let few = ltb (length c.marks) (size o) in
-      then-placed mostRecords (row 1 unknown) _ (row-placed mostRecords 1 unknown (omega arith))
-      (λ _. then-placed mostRecords (checked o) _ (checked-placed o)
-      (λ z. then-placed mostRecords (row 14 few) _ (row-placed mostRecords 14 few (omega arith))
-      (λ _. then-placed mostRecords (rowAt 14 (badMark o c.marks) (size o)) _
-      (row-at-placed mostRecords 14 (badMark o c.marks) (size o) (omega arith) (accepted-formed o (eq-eqb _ _ z)).size-most)
-      (λ _. row-placed mostRecords 9 (ltb (length c.sheet) (sheetTaken c)) (omega arith)))))
+      then_placed most_records (row 1 unknown) _ (row_placed most_records 1 unknown (omega arith))
+      (λ _. then_placed most_records (checked o) _ (checked_placed o)
+      (λ z. then_placed most_records (row 14 few) _ (row_placed most_records 14 few (omega arith))
+      (λ _. then_placed most_records (row_at 14 (bad_mark o c.marks) (size o)) _
+      (row_at_placed most_records 14 (bad_mark o c.marks) (size o) (omega arith) (accepted_formed o (eq-eqb _ _ z)).size_most)
+      (λ _. row_placed most_records 9 (ltb (length c.sheet) (sheet_taken c)) (omega arith)))))
 
-  pub reply-place-most : (reply c).place ≤ mostRecords
+  pub reply_place_most : (reply c).place ≤ most_records
   unfolding reply
-  reply-place-most = told-place _ _ _ judged-placed.place-most
+  reply_place_most = told_place _ _ _ judged_placed.place_most

@@ -1,7 +1,7 @@
 // The first taxon of a set in each chain, by its place.
 ghost use Rattle.std.specs.Prelude.{◌≡◌};
 ghost use Rattle.measures.specs.Measures.{Measurable};
-ghost use Rattle.sheet.specs.Inner.{lower, higher, placeOf, HasMark, Since, priceCounts, AtRecord, Firsts};
+ghost use Rattle.sheet.specs.Inner.{lower, higher, place_of, HasMark, Since, price_counts, AtRecord, Firsts};
 
 use outline::fields::{first_of, next_of};
 use outline::limits::{MOST_RECORDS, NUMBERS};
@@ -30,7 +30,7 @@ pub fn higher_of(x: usize, y: usize) -> usize
 // The place of record r, if it is chosen.
 pub fn place_of(set: &[u8], r: usize) -> usize
     requires { HasMark set.now r }
-    ensures { result ≡ placeOf set.now r }
+    ensures { result ≡ place_of set.now r }
 {
     if set[r - 1] == 1 {
         return r - 1;
@@ -41,7 +41,7 @@ pub fn place_of(set: &[u8], r: usize) -> usize
 // From which place on the price of record r counts: that of the first taxon at or below it.
 pub fn opened_at(o: &[u8], set: &[u8], firsts: &[usize; NUMBERS], r: usize) -> usize
     requires { AtRecord o.now set.now firsts.now r }
-    ensures { Since result (priceCounts o.now set.now r) }
+    ensures { Since result (price_counts o.now set.now r) }
 {
     lower_of(place_of(set, r), firsts[first_of(o, r)])
 }

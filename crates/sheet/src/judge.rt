@@ -3,7 +3,7 @@ ghost use Rattle.std.specs.Prelude.{◌≡◌, ◌≤◌, length};
 ghost use Rattle.lists.specs.Lists.{lowest};
 ghost use Rattle.refusals.specs.Refusals.{told};
 ghost use Rattle.outline.specs.Outline.{size, records, IsRecord};
-ghost use Rattle.sheet.specs.Answer.{call, badMark, judged};
+ghost use Rattle.sheet.specs.Answer.{call, bad_mark, judged};
 
 use measures::marked;
 use outline::check;
@@ -13,7 +13,7 @@ use refusals::verdict::{Refusal, Verdict};
 // Whether the mark of record r is neither 0 nor 1, or 1 at a group.
 fn is_bad(o: &[u8], marks: &[u8], r: usize) -> bool
     requires { IsRecord o.now r × (size o.now ≤ length marks.now) }
-    ensures { result ≡ badMark o.now marks.now r }
+    ensures { result ≡ bad_mark o.now marks.now r }
 {
     let mark = marks[r - 1];
     (1 < mark) | ((mark == 1) & !is_taxon(o, r))
@@ -22,7 +22,7 @@ fn is_bad(o: &[u8], marks: &[u8], r: usize) -> bool
 // The lowest record with such a mark, 0 if there is none.
 fn bad_mark_at(o: &[u8], marks: &[u8]) -> usize
     requires { size o.now ≤ length marks.now }
-    ensures { result ≡ lowest (badMark o.now marks.now) (records o.now) }
+    ensures { result ≡ lowest (bad_mark o.now marks.now) (records o.now) }
 {
     let n = o.len() / 16;
     let mut r = 1;

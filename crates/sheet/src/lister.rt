@@ -3,8 +3,8 @@ ghost use Rattle.std.specs.Prelude.{◌≡◌};
 ghost use Rattle.lists.specs.Lists.{over};
 ghost use Rattle.text.specs.Written.{Written};
 ghost use Rattle.sheet.specs.Answer.{call, told, Answered};
-ghost use Rattle.sheet.specs.Inner.{Listable, rowIn, RowFits};
-ghost use Rattle.sheet.specs.Sheet.{rowsOf};
+ghost use Rattle.sheet.specs.Inner.{Listable, row_in, RowFits};
+ghost use Rattle.sheet.specs.Sheet.{rows_of};
 
 use super::answer::Answer;
 use super::firsts::firsts_of;
@@ -27,7 +27,7 @@ fn put_row(
 ) -> usize
     requires { RowFits o.now set.now r quarters.now diversity.now sheet.old at }
     ensures { Written at
-        (rowIn o.now set.now quarters.now diversity.now r)
+        (row_in o.now set.now quarters.now diversity.now r)
         sheet.old sheet.new result }
 {
     if set[r - 1] == 1 {
@@ -42,7 +42,7 @@ fn put_row(
 // Writes a row for each taxon of a set, in record order.
 fn write_rows(o: &[u8], way: u32, set: &[u8], sheet: &mut [u32])
     requires { Listable o.now set.now sheet.old }
-    ensures { sheet.new ≡ over (rowsOf o.now way set.now) sheet.old }
+    ensures { sheet.new ≡ over (rows_of o.now way set.now) sheet.old }
 {
     let n = o.len() / 16;
     let firsts = firsts_of(o, set);

@@ -1,6 +1,6 @@
 // The first taxon of a set outside each chain, by its place.
 ghost use Rattle.std.specs.Prelude.{if◌then◌else◌, ◌≡◌, eqb};
-ghost use Rattle.sheet.specs.Inner.{noPlace, HasFirsts, Outsides};
+ghost use Rattle.sheet.specs.Inner.{no_place, HasFirsts, Outsides};
 
 use super::firsts::{NONE, lower_of, place_of};
 use outline::fields::{first_of, next_of};
@@ -8,7 +8,7 @@ use outline::limits::NUMBERS;
 
 // The place of the first taxon outside the whole tree: rooted, it is as if one stood above the root from the first place on.
 fn outside_root(way: u32) -> usize
-    ensures { result ≡ (if eqb way 0 then 0 else noPlace) }
+    ensures { result ≡ (if eqb way 0 then 0 else no_place) }
 {
     if way == 0 {
         return 0;

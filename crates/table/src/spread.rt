@@ -1,6 +1,6 @@
 // The unrooted way: every pair of a clade and the rest of its chain, by one recursion over the links.
 ghost use Rattle.std.specs.Prelude.{if◌then◌else◌, ◌≡◌, ◌≤◌, eqb};
-ghost use Rattle.table.specs.Table.{IsTaxon, mostAbove, Finished};
+ghost use Rattle.table.specs.Table.{IsTaxon, most_above, Finished};
 ghost use Rattle.table.specs.Spread.{Running, Spreadable, Spread, BySingle, ByPairs, TaxonSpreadable, TaxonSpread, Crossable, Crossed, Tops, ByRow, Meets, Met};
 
 use super::push::push;
@@ -13,7 +13,7 @@ use outline::fields::{branch_of, first_of, is_locked, next_of, price_of};
 fn better_by_single(o: &[u8], r: usize, above: usize, width: usize, work: &mut [u64])
     requires running { Running o.now width work.old }
     requires taxon { IsTaxon o.now r }
-    requires above_few { above ≤ mostAbove }
+    requires above_few { above ≤ most_above }
     ensures { BySingle o.now r above width work.old work.new }
 {
     let cost = above + price_of(o, r) as usize;

@@ -2,9 +2,9 @@
 ghost use Rattle.std.specs.Prelude.{◌≡◌, ◌<◌};
 ghost use Rattle.laws.specs.Candidate.{some};
 ghost use Rattle.laws.specs.Numbers.{weight};
-ghost use Rattle.cells.specs.Cells.{lift, unit, view, wordLimit};
+ghost use Rattle.cells.specs.Cells.{lift, unit, view, word_limit};
 ghost use Rattle.cells.specs.Memory.{Joins, Joining};
-ghost use Rattle.table.specs.Table.{IsTaxon, taxonWorth, TerminalFills, TerminalFilled, Finished, TaxonJoins, TaxonRow};
+ghost use Rattle.table.specs.Table.{IsTaxon, taxon_worth, TerminalFills, TerminalFilled, Finished, TaxonJoins, TaxonRow};
 ghost use Rattle.outline.specs.Outline.{IsRecord};
 
 use cells::candidate::Candidate;
@@ -14,7 +14,7 @@ use outline::fields::{branch_of, is_locked, is_taxon, price_of};
 // 2 to the number of taxa after record r.
 fn weight_of(o: &[u8], r: usize) -> u64
     requires is_record { IsRecord o.now r }
-    requires weight_fits { weight o.now r < wordLimit }
+    requires weight_fits { weight o.now r < word_limit }
     ensures { result ≡ weight o.now r }
 {
     let mut w: u64 = 1;
@@ -33,7 +33,7 @@ pub fn taxon_of(o: &[u8], r: usize, diversity: u64, cost: u64) -> Candidate
     requires taxon { IsTaxon o.now r }
     requires diversity_fits { diversity < lift }
     requires cost_fits { cost < unit }
-    ensures { view result ≡ some (taxonWorth o.now r diversity cost) }
+    ensures { view result ≡ some (taxon_worth o.now r diversity cost) }
 {
     Candidate::some(is_locked(o, r) as u64, diversity, cost, weight_of(o, r))
 }

@@ -7,17 +7,17 @@ use native.Mathlib.Omega.{arith}
 use lib.ListN.{length, get_or, take, drop, drop_of_length-le}
 use lib.Seq.{drop-cons, take_all}
 use Rattle.text.specs.Written.{LongEnough, Written}
-use Rattle.text.specs.Text.{blank, lineEnd, decimal, others, line}
-use Rattle.text.proofs.Writing.{Left, left-starts, left-fits, left-goes, left-ends}
+use Rattle.text.specs.Text.{blank, line_end, decimal, others, line}
+use Rattle.text.proofs.Writing.{Left, left_starts, left_fits, left_goes, left_ends}
 
-others-more : (ns : List ℕ) (i : ℕ) → i < length ns
+others_more : (ns : List ℕ) (i : ℕ) → i < length ns
     → others (drop i ns) ≡ (blank ∷ []) ++ (decimal (get_or ns i 0) ++ others (drop (i + 1) ns))
 unfolding others
-others-more ns i h = rw (drop-cons ns i 0 h, add-one)
+others_more ns i h = rw (drop-cons ns i 0 h, add-one)
 
-others-none : (ns : List ℕ) (i : ℕ) → length ns ≤ i → others (drop i ns) ≡ (lineEnd ∷ []) ++ []
+others_none : (ns : List ℕ) (i : ℕ) → length ns ≤ i → others (drop i ns) ≡ (line_end ∷ []) ++ []
 unfolding others
-others-none ns i h = rw (drop_of_length-le ns h)
+others_none ns i h = rw (drop_of_length-le ns h)
 
 -- i numbers are written, each after a blank
 pub record Lining (at : ℕ) (ns before : List ℕ) (i to : ℕ) (after : List ℕ) : Type 0 where
@@ -26,44 +26,44 @@ pub record Lining (at : ℕ) (ns before : List ℕ) (i to : ℕ) (after : List �
 
 module _ {at i to : ℕ} {ns before after : List ℕ} (l : Lining at ns before i to after) where
   module _ (more : i < length ns) where
-    blank-left : Left at (others ns) before to ((blank ∷ []) ++ (decimal (get_or ns i 0) ++ others (drop (i + 1) ns))) after
-    blank-left = rw (others-more ns i more) at l.left
+    blank_left : Left at (others ns) before to ((blank ∷ []) ++ (decimal (get_or ns i 0) ++ others (drop (i + 1) ns))) after
+    blank_left = rw (others_more ns i more) at l.left
 
-    pub blank-fits : to < length after
-    blank-fits = omega (arith, left-fits (blank ∷ []) _ blank-left)
+    pub blank_fits : to < length after
+    blank_fits = omega (arith, left_fits (blank ∷ []) _ blank_left)
 
     -- the blank is written
     module _ {next : ℕ} {buffer : List ℕ} (b : Written to (blank ∷ []) after buffer next) where
-      number-left : Left at (others ns) before next (decimal (get_or ns i 0) ++ others (drop (i + 1) ns)) buffer
-      number-left = left-goes (blank ∷ []) _ blank-left b
+      number_left : Left at (others ns) before next (decimal (get_or ns i 0) ++ others (drop (i + 1) ns)) buffer
+      number_left = left_goes (blank ∷ []) _ blank_left b
 
-      pub number-fits : LongEnough next (decimal (get_or ns i 0)) buffer
-      number-fits = left-fits (decimal (get_or ns i 0)) _ number-left
+      pub number_fits : LongEnough next (decimal (get_or ns i 0)) buffer
+      number_fits = left_fits (decimal (get_or ns i 0)) _ number_left
 
-      pub lining-goes : {last : ℕ} {again : List ℕ} → Written next (decimal (get_or ns i 0)) buffer again last
+      pub lining_goes : {last : ℕ} {again : List ℕ} → Written next (decimal (get_or ns i 0)) buffer again last
           → Lining at ns before (i + 1) last again
-      lining-goes d = record { high = omega arith; left = left-goes (decimal (get_or ns i 0)) _ number-left d }
+      lining_goes d = record { high = omega arith; left = left_goes (decimal (get_or ns i 0)) _ number_left d }
 
   module _ (none : length ns ≤ i) where
-    end-left : Left at (others ns) before to ((lineEnd ∷ []) ++ []) after
-    end-left = rw (others-none ns i none) at l.left
+    end_left : Left at (others ns) before to ((line_end ∷ []) ++ []) after
+    end_left = rw (others_none ns i none) at l.left
 
-    pub end-fits : to < length after
-    end-fits = omega (arith, left-fits (lineEnd ∷ []) [] end-left)
+    pub end_fits : to < length after
+    end_fits = omega (arith, left_fits (line_end ∷ []) [] end_left)
 
-    pub lining-ends : {next : ℕ} {exit : List ℕ} → Written to (lineEnd ∷ []) after exit next
+    pub lining_ends : {next : ℕ} {exit : List ℕ} → Written to (line_end ∷ []) after exit next
         → Written at (others ns) before exit next
-    lining-ends b = left-ends (left-goes (lineEnd ∷ []) [] end-left b)
+    lining_ends b = left_ends (left_goes (line_end ∷ []) [] end_left b)
 
 -- a line's first number, and the others, which are the rest of the list
-line-begins : (ns : List ℕ) → 0 < length ns → line ns ≡ decimal (get_or ns 0 0) ++ others (take (length ns - 1) (drop 1 ns))
+line_begins : (ns : List ℕ) → 0 < length ns → line ns ≡ decimal (get_or ns 0 0) ++ others (take (length ns - 1) (drop 1 ns))
 unfolding line
-line-begins [] h = absurd (omega arith)
-line-begins (n ∷ ns) h = rw (take_all (length (n ∷ ns) - 1) ns (omega arith))
+line_begins [] h = absurd (omega arith)
+line_begins (n ∷ ns) h = rw (take_all (length (n ∷ ns) - 1) ns (omega arith))
 
 module _ (at : ℕ) (ns buffer : List ℕ) (some : 0 < length ns) (fits : LongEnough at (line ns) buffer) where
-  pub line-left : Left at (line ns) buffer at (decimal (get_or ns 0 0) ++ others (take (length ns - 1) (drop 1 ns))) buffer
-  line-left = subst (λ t. Left at (line ns) buffer at t buffer) (line-begins ns some) (left-starts fits)
+  pub line_left : Left at (line ns) buffer at (decimal (get_or ns 0 0) ++ others (take (length ns - 1) (drop 1 ns))) buffer
+  line_left = subst (λ t. Left at (line ns) buffer at t buffer) (line_begins ns some) (left_starts fits)
 
-  pub first-fits : LongEnough at (decimal (get_or ns 0 0)) buffer
-  first-fits = left-fits (decimal (get_or ns 0 0)) _ line-left
+  pub first_fits : LongEnough at (decimal (get_or ns 0 0)) buffer
+  first_fits = left_fits (decimal (get_or ns 0 0)) _ line_left

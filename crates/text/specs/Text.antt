@@ -10,26 +10,26 @@ abbrev pub blank : ℕ
 blank = 32
 
 -- a line end
-abbrev pub lineEnd : ℕ
-lineEnd = 10
+abbrev pub line_end : ℕ
+line_end = 10
 
 -- the decimal digits of n, the most significant first and no 0 in front of others; depth bounds how many there are
-unfoldable pub digitsIn : ℕ → ℕ → List ℕ
-digitsIn zero n = []
-digitsIn (suc depth) n = cond (ltb n 10) ((nought + n) ∷ []) (digitsIn depth (n / 10) ++ ((nought + n % 10) ∷ []))
+unfoldable pub digits_in : ℕ → ℕ → List ℕ
+digits_in zero n = []
+digits_in (suc depth) n = cond (ltb n 10) ((nought + n) ∷ []) (digits_in depth (n / 10) ++ ((nought + n % 10) ∷ []))
 
 -- n has at most n + 1 digits
 unfoldable pub decimal : ℕ → List ℕ
-decimal n = digitsIn (n + 1) n
+decimal n = digits_in (n + 1) n
 
 -- the numbers that follow on a line, a single blank before each, then the line end
 unfoldable pub others : List ℕ → List ℕ
-others [] = lineEnd ∷ []
+others [] = line_end ∷ []
 others (n ∷ ns) = blank ∷ (decimal n ++ others ns)
 
 -- a line: its numbers with single blanks between, then the line end
 unfoldable pub line : List ℕ → List ℕ
-line [] = lineEnd ∷ []
+line [] = line_end ∷ []
 line (n ∷ ns) = decimal n ++ others ns
 
 -- a line that begins with a word

@@ -5,17 +5,17 @@ use native.Mathlib.Omega.{arith}
 use lib.Dec.{ltb}
 use lib.ListN.{length}
 use Rattle.refusals.specs.Refusals.{Ruling}
-use Rattle.refusals.proofs.Placed.{Placed, row-placed, then-placed}
+use Rattle.refusals.proofs.Placed.{Placed, row_placed, then_placed}
 use Rattle.outline.specs.Answer.{checked}
-use Rattle.outline.proofs.Placed.{checked-placed}
-use Rattle.view.specs.Answer.{Call, viewTaken, judged, Answered}
-use Rattle.outline.specs.Rules.{mostRecords}
+use Rattle.outline.proofs.Placed.{checked_placed}
+use Rattle.view.specs.Answer.{Call, view_taken, judged, Answered}
+use Rattle.outline.specs.Rules.{most_records}
 
 module _ (c : Call) (shown : List ℕ → List ℕ) where
-  pub place-most : {t : Ruling} {view : List ℕ} → Answered shown c t view → t.place ≤ mostRecords
+  pub place_most : {t : Ruling} {view : List ℕ} → Answered shown c t view → t.place ≤ most_records
   unfolding judged
-  place-most x =
-      let short = ltb (length c.view) (viewTaken c) in
-      let placed : Placed mostRecords (judged c) =
-      then-placed mostRecords (checked c.outline) _ (checked-placed c.outline) (λ _. row-placed mostRecords 9 short (omega arith)) in
-      rw x.told-judged placed.place-most
+  place_most x =
+      let short = ltb (length c.view) (view_taken c) in
+      let placed : Placed most_records (judged c) =
+      then_placed most_records (checked c.outline) _ (checked_placed c.outline) (λ _. row_placed most_records 9 short (omega arith)) in
+      rw x.told_judged placed.place_most

@@ -13,18 +13,18 @@ abbrev pub call : List ℕ → List ℕ → Call
 call outline view = record { outline = outline; view = view }
 
 -- the bytes that a view needs: 16 for each record
-abbrev pub viewTaken : Call → ℕ
-viewTaken c = 16 * size c.outline
+abbrev pub view_taken : Call → ℕ
+view_taken c = 16 * size c.outline
 
 -- the rows in their order, the same for either reader: the check's, then 9. It is all that a call is told
 unfoldable pub judged : Call → Ruling
-judged c = checked c.outline ▸ row 9 (ltb (length c.view) (viewTaken c))
+judged c = checked c.outline ▸ row 9 (ltb (length c.view) (view_taken c))
 
 -- the view after a call: what its reader gets where no row of the table holds, and what is past it unchanged
-unfoldable pub viewAfter : (List ℕ → List ℕ) → Call → List ℕ
-viewAfter shown c = after (judged c) (shown c.outline) c.view
+unfoldable pub view_after : (List ℕ → List ℕ) → Call → List ℕ
+view_after shown c = after (judged c) (shown c.outline) c.view
 
 -- what a call ensures, of the number and the place that it is told and of the view as it leaves it, for a reader that gets what is shown
 pub record Answered (shown : List ℕ → List ℕ) (c : Call) (t : Ruling) (view : List ℕ) : Type 0 where
-  pub told-judged : t ≡ judged c
-  pub view-written : view ≡ viewAfter shown c
+  pub told_judged : t ≡ judged c
+  pub view_written : view ≡ view_after shown c

@@ -6,7 +6,7 @@ ghost use Rattle.outline.specs.Outline.{size};
 ghost use Rattle.text.specs.Written.{Written};
 ghost use Rattle.view.specs.Answer.{call, Answered};
 ghost use Rattle.view.specs.Inner.{RecordFits};
-ghost use Rattle.view.specs.View.{buyerRecord, buyerView};
+ghost use Rattle.view.specs.View.{buyer_record, buyer_view};
 
 use super::judge::judge;
 use outline::fields::{branch_of, first_of, next_of, plate_of};
@@ -16,7 +16,7 @@ use refusals::verdict::Verdict;
 // Writes record r without its price and its lock at a place, and answers the next place.
 fn put_cleared(o: &[u8], r: usize, view: &mut [u8], at: usize) -> usize
     requires { RecordFits o.now r view.old at }
-    ensures { Written at (buyerRecord o.now r) view.old view.new result }
+    ensures { Written at (buyer_record o.now r) view.old view.new result }
 {
     let next = next_of(o, r);
     let first = first_of(o, r);
@@ -29,7 +29,7 @@ fn put_cleared(o: &[u8], r: usize, view: &mut [u8], at: usize) -> usize
 // Writes every record so, one after the other.
 fn write_cleared(o: &[u8], view: &mut [u8])
     requires { 16 * size o.now ≤ length view.old }
-    ensures { view.new ≡ over (buyerView o.now) view.old }
+    ensures { view.new ≡ over (buyer_view o.now) view.old }
 {
     let n = o.len() / 16;
     let mut at = 0;
@@ -42,7 +42,7 @@ fn write_cleared(o: &[u8], view: &mut [u8])
 
 // Refuses by the first row that holds; else writes the cleared records.
 pub fn view_buyer(outline: &[u8], view: &mut [u8]) -> Verdict
-    ensures { Answered buyerView (call outline.now view.old) (told result) view.new }
+    ensures { Answered buyer_view (call outline.now view.old) (told result) view.new }
 {
     match judge(outline, view) {
         Verdict::Refused(refusal) => Verdict::Refused(refusal),

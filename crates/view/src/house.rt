@@ -1,7 +1,7 @@
 // What a house reader gets: the records as they are.
 ghost use Rattle.refusals.specs.Refusals.{told};
 ghost use Rattle.view.specs.Answer.{call, Answered};
-ghost use Rattle.view.specs.View.{houseView};
+ghost use Rattle.view.specs.View.{house_view};
 
 use super::judge::judge;
 use refusals::verdict::Verdict;
@@ -9,7 +9,7 @@ use text::put_text;
 
 // Refuses by the first row that holds; else writes the outline's bytes, which `put_text` copies as it copies any.
 pub fn view_house(outline: &[u8], view: &mut [u8]) -> Verdict
-    ensures { Answered houseView (call outline.now view.old) (told result) view.new }
+    ensures { Answered house_view (call outline.now view.old) (told result) view.new }
 {
     match judge(outline, view) {
         Verdict::Refused(refusal) => Verdict::Refused(refusal),

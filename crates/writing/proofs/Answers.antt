@@ -9,98 +9,98 @@ use lib.Dec.{eqb, ltb}
 use lib.ListN.{length}
 use borrow.Author.Tests.{ne_eqb, ltb-false}
 use Rattle.lists.specs.Lists.{total, lowest, over, Bytes}
-use Rattle.lists.proofs.Bools.{both-false}
-use Rattle.refusals.specs.Refusals.{Ruling, passed, refusal, told as toldVerdict, row}
+use Rattle.lists.proofs.Bools.{both_false}
+use Rattle.refusals.specs.Refusals.{Ruling, passed, refusal, told as told_verdict, row}
 use Rattle.refusals.specs.declared.verdict.Refusal.{Refusal}
 use Rattle.refusals.specs.declared.verdict.Verdict.{Verdict}
-use Rattle.refusals.proofs.Refusals.{refusal-not-zero}
+use Rattle.refusals.proofs.Refusals.{refusal_not_zero}
 use Rattle.outline.specs.WellFormed.{WellFormed}
 use Rattle.outline.specs.Outline.{records}
 use Rattle.outline.specs.Answer.{checked}
-use Rattle.outline.proofs.WellFormed.{accepted-formed}
-use Rattle.writing.specs.Text.{outlineText, outlinePairs}
-use Rattle.writing.specs.Answer.{Call, told, tooShort, judged, reply, textAfter, pairsAfter, Answered}
+use Rattle.outline.proofs.WellFormed.{accepted_formed}
+use Rattle.writing.specs.Text.{outline_text, outline_pairs}
+use Rattle.writing.specs.Answer.{Call, told, too_short, judged, reply, text_after, pairs_after, Answered}
 use Rattle.newick.specs.Trees.{unwritable}
-use Rattle.writing.specs.Inner.{ownBytes, Writable}
+use Rattle.writing.specs.Inner.{own_bytes, Writable}
 use Rattle.writing.specs.declared.answer.Answer.{Answer}
-use Rattle.writing.proofs.OwnBytes.{text-length, mostWritten, text-few}
+use Rattle.writing.proofs.OwnBytes.{text_length, most_written, text_few}
 use Rattle.newick.proofs.Plain.{Plain}
-use Rattle.writing.proofs.Priced.{pairs-count}
-use Rattle.writing.proofs.Demands.{plain-by}
+use Rattle.writing.proofs.Priced.{pairs_count}
+use Rattle.writing.proofs.Demands.{plain_by}
 use Rattle.outline.specs.Rules.{taxa}
 
 module _ (c : Call) (small : Bytes c.outline) where
-  refused-by : (e : Refusal) → judged c ≡ refusal e → Answered c (told (Answer.Refused e)) c.text c.pairs
-  unfolding reply textAfter pairsAfter
-  refused-by e h =
-      let off : eqb (judged c).number 0 ≡ false = ap (λ (t : Ruling). eqb t.number 0) h ∙ refusal-not-zero e in
-      record { told-reply = rw (off, h); text-written = rw off; pairs-written = rw off; outline-bytes = small }
+  refused_by : (e : Refusal) → judged c ≡ refusal e → Answered c (told (Answer.Refused e)) c.text c.pairs
+  unfolding reply text_after pairs_after
+  refused_by e h =
+      let off : eqb (judged c).number 0 ≡ false = ap (λ (t : Ruling). eqb t.number 0) h ∙ refusal_not_zero e in
+      record { told_reply = rw (off, h); text_written = rw off; pairs_written = rw off; outline_bytes = small }
 
   -- the check refuses
-  pub check-refused : {v : Verdict} (e : Refusal) → toldVerdict v ≡ checked c.outline → v ≡ Verdict.Refused e
+  pub check_refused : {v : Verdict} (e : Refusal) → told_verdict v ≡ checked c.outline → v ≡ Verdict.Refused e
       → Answered c (told (Answer.Refused e)) c.text c.pairs
   unfolding judged
-  check-refused e h is = refused-by e (let is : checked c.outline ≡ refusal e = sym h ∙ ap toldVerdict is in rw (is, refusal-not-zero e))
+  check_refused e h is = refused_by e (let is : checked c.outline ≡ refusal e = sym h ∙ ap told_verdict is in rw (is, refusal_not_zero e))
 
   -- the check passes
-  module _ {v : Verdict} (h : toldVerdict v ≡ checked c.outline) (is : v ≡ Verdict.Accepted) where
+  module _ {v : Verdict} (h : told_verdict v ≡ checked c.outline) (is : v ≡ Verdict.Accepted) where
     passes : checked c.outline ≡ passed
-    passes = sym h ∙ ap toldVerdict is
+    passes = sym h ∙ ap told_verdict is
 
-    pub formed-by : WellFormed c.outline
-    formed-by = accepted-formed c.outline (ap (λ (t : Ruling). eqb t.number 0) passes)
+    pub formed_by : WellFormed c.outline
+    formed_by = accepted_formed c.outline (ap (λ (t : Ruling). eqb t.number 0) passes)
 
     -- a record is unwritable
-    pub place-refused : {p : ℕ} → p ≡ lowest (unwritable c.outline) (records c.outline) → p ≢ 0
+    pub place_refused : {p : ℕ} → p ≡ lowest (unwritable c.outline) (records c.outline) → p ≢ 0
         → Answered c (told (Answer.Refused (Refusal.Unwritable p))) c.text c.pairs
     unfolding judged records
-    place-refused {p} e n = refused-by (Refusal.Unwritable p) (rw (passes, ← e, ne_eqb p 0 n))
+    place_refused {p} e n = refused_by (Refusal.Unwritable p) (rw (passes, ← e, ne_eqb p 0 n))
 
     -- none is
     module _ {p : ℕ} (e : p ≡ lowest (unwritable c.outline) (records c.outline)) (z : p ≡ 0) where
-      last-row : judged c ≡ row 9 (tooShort c)
+      last_row : judged c ≡ row 9 (too_short c)
       unfolding judged records
-      last-row = rw (passes, ← e, z)
+      last_row = rw (passes, ← e, z)
 
       plain : Plain c.outline
       unfolding records
-      plain = plain-by c.outline (ap (λ (t : Ruling). t.number) passes) (sym e ∙ z)
+      plain = plain_by c.outline (ap (λ (t : Ruling). t.number) passes) (sym e ∙ z)
 
-      module _ {b : ℕ} (bytes : b ≡ total (ownBytes c.outline) (records c.outline)) where
-        bytes-are : b + 1 ≡ length (outlineText c.outline)
-        bytes-are = omega (arith, text-length c.outline formed-by.linked)
+      module _ {b : ℕ} (bytes : b ≡ total (own_bytes c.outline) (records c.outline)) where
+        bytes_are : b + 1 ≡ length (outline_text c.outline)
+        bytes_are = omega (arith, text_length c.outline formed_by.linked)
 
-        pub bytes-few : b + 1 ≤ mostWritten
-        bytes-few = omega (arith, bytes-are, text-few plain)
+        pub bytes_few : b + 1 ≤ most_written
+        bytes_few = omega (arith, bytes_are, text_few plain)
 
         module _ {k : ℕ} (count : k ≡ taxa c.outline) where
-          pairs-are : 2 * k ≡ length (outlinePairs c.outline)
-          pairs-are = omega (arith, pairs-count c.outline formed-by)
+          pairs_are : 2 * k ≡ length (outline_pairs c.outline)
+          pairs_are = omega (arith, pairs_count c.outline formed_by)
 
-          short-is : (ltb (length c.text) (b + 1) || ltb (length c.pairs) (2 * k)) ≡ tooShort c
-          unfolding tooShort
-          short-is = rw (bytes-are, pairs-are)
+          short_is : (ltb (length c.text) (b + 1) || ltb (length c.pairs) (2 * k)) ≡ too_short c
+          unfolding too_short
+          short_is = rw (bytes_are, pairs_are)
 
           -- a buffer is short
-          pub room-refused : (ltb (length c.text) (b + 1) || ltb (length c.pairs) (2 * k)) ≡ true
+          pub room_refused : (ltb (length c.text) (b + 1) || ltb (length c.pairs) (2 * k)) ≡ true
               → Answered c (told (Answer.Refused Refusal.BufferTooShort)) c.text c.pairs
-          room-refused s = refused-by Refusal.BufferTooShort (last-row ∙ ap (row 9) (sym short-is ∙ s))
+          room_refused s = refused_by Refusal.BufferTooShort (last_row ∙ ap (row 9) (sym short_is ∙ s))
 
           -- or there is room, and all is written
           module _ (s : (ltb (length c.text) (b + 1) || ltb (length c.pairs) (2 * k)) ≡ false) where
             pub writable : Writable c.outline c.text c.pairs
             writable =
-                let roomy = both-false (ltb (length c.text) (b + 1)) (ltb (length c.pairs) (2 * k)) s in
+                let roomy = both_false (ltb (length c.text) (b + 1)) (ltb (length c.pairs) (2 * k)) s in
                 record {
                   accepted = ap (λ (t : Ruling). eqb t.number 0) passes;
-                  text-room = omega (arith, bytes-are, ltb-false (length c.text) (b + 1) roomy.0);
-                  pairs-room = omega (arith, pairs-are, ltb-false (length c.pairs) (2 * k) roomy.1);
+                  text_room = omega (arith, bytes_are, ltb-false (length c.text) (b + 1) roomy.0);
+                  pairs_room = omega (arith, pairs_are, ltb-false (length c.pairs) (2 * k) roomy.1);
                 }
 
-            pub all-written : {text pairs : List ℕ} → text ≡ over (outlineText c.outline) c.text → pairs ≡ over (outlinePairs c.outline) c.pairs
+            pub all_written : {text pairs : List ℕ} → text ≡ over (outline_text c.outline) c.text → pairs ≡ over (outline_pairs c.outline) c.pairs
                 → Answered c (told (Answer.Written (b + 1) k)) text pairs
-            unfolding reply textAfter pairsAfter
-            all-written d f =
-                let none : judged c ≡ passed = last-row ∙ ap (row 9) (sym short-is ∙ s) in
-                let half : k ≡ length (outlinePairs c.outline) / 2 = omega (arith, pairs-are) in
-                record { told-reply = rw (none, bytes-are, half); text-written = rw none d; pairs-written = rw none f; outline-bytes = small }
+            unfolding reply text_after pairs_after
+            all_written d f =
+                let none : judged c ≡ passed = last_row ∙ ap (row 9) (sym short_is ∙ s) in
+                let half : k ≡ length (outline_pairs c.outline) / 2 = omega (arith, pairs_are) in
+                record { told_reply = rw (none, bytes_are, half); text_written = rw none d; pairs_written = rw none f; outline_bytes = small }

@@ -2,37 +2,37 @@
 use Prim.Native.Nat.{◌≤◌}
 use native.Mathlib.Omega.{arith}
 use borrow.Author.Tests.{eq-eqb}
-use Rattle.refusals.specs.Refusals.{row, rowAt}
-use Rattle.refusals.proofs.Replies.{told-place, told-figures}
-use Rattle.refusals.proofs.Placed.{Placed, row-placed, row-at-placed, then-placed}
+use Rattle.refusals.specs.Refusals.{row, row_at}
+use Rattle.refusals.proofs.Replies.{told_place, told_figures}
+use Rattle.refusals.proofs.Placed.{Placed, row_placed, row_at_placed, then_placed}
 use Rattle.outline.specs.Outline.{size}
 use Rattle.outline.specs.Answer.{checked}
-use Rattle.outline.proofs.WellFormed.{accepted-formed}
-use Rattle.outline.proofs.Placed.{checked-placed}
-use Rattle.writing.specs.Answer.{Call, Figures, tooShort, judged, reply}
+use Rattle.outline.proofs.WellFormed.{accepted_formed}
+use Rattle.outline.proofs.Placed.{checked_placed}
+use Rattle.writing.specs.Answer.{Call, Figures, too_short, judged, reply}
 use Rattle.newick.specs.Trees.{unwritable}
-use Rattle.writing.proofs.OwnBytes.{mostWritten, text-few}
-use Rattle.writing.proofs.Priced.{pairs-count}
-use Rattle.writing.proofs.Demands.{judged-plain}
-use Rattle.outline.specs.Rules.{mostRecords, mostTaxa}
+use Rattle.writing.proofs.OwnBytes.{most_written, text_few}
+use Rattle.writing.proofs.Priced.{pairs_count}
+use Rattle.writing.proofs.Demands.{judged_plain}
+use Rattle.outline.specs.Rules.{most_records, most_taxa}
 
 module _ (c : Call) where
-  judged-placed : Placed mostRecords (judged c)
+  judged_placed : Placed most_records (judged c)
   unfolding judged
-  judged-placed =
+  judged_placed =
       let o = c.outline in
-      then-placed mostRecords (checked o) _ (checked-placed o)
-      (λ z. then-placed mostRecords (rowAt 13 (unwritable o) (size o)) (row 9 (tooShort c))
-      (row-at-placed mostRecords 13 (unwritable o) (size o) (omega arith) (accepted-formed o (eq-eqb _ _ z)).size-most)
-      (λ _. row-placed mostRecords 9 (tooShort c) (omega arith)))
+      then_placed most_records (checked o) _ (checked_placed o)
+      (λ z. then_placed most_records (row_at 13 (unwritable o) (size o)) (row 9 (too_short c))
+      (row_at_placed most_records 13 (unwritable o) (size o) (omega arith) (accepted_formed o (eq-eqb _ _ z)).size_most)
+      (λ _. row_placed most_records 9 (too_short c) (omega arith)))
 
   -- the place is a record's, there are at most 10 bytes for each record and 8 more for each taxon, and at most a pair for each taxon
-  pub reply-few : ((reply c).place ≤ mostRecords) × ((reply c).figures.bytes ≤ mostWritten) × ((reply c).figures.pairs ≤ mostTaxa)
+  pub reply_few : ((reply c).place ≤ most_records) × ((reply c).figures.bytes ≤ most_written) × ((reply c).figures.pairs ≤ most_taxa)
   unfolding reply
-  reply-few =
+  reply_few =
       let few =
-      told-figures _ _ _ (λ (f : Figures). (f.bytes ≤ mostWritten) × (f.pairs ≤ mostTaxa)) (omega arith, omega arith)
+      told_figures _ _ _ (λ (f : Figures). (f.bytes ≤ most_written) × (f.pairs ≤ most_taxa)) (omega arith, omega arith)
       (λ z.
-      let plain = judged-plain c z in
-      (text-few plain, omega (arith, pairs-count c.outline plain.formed, plain.formed.taxa-most)))
-      in (told-place _ _ _ judged-placed.place-most, few.0, few.1)
+      let plain = judged_plain c z in
+      (text_few plain, omega (arith, pairs_count c.outline plain.formed, plain.formed.taxa_most)))
+      in (told_place _ _ _ judged_placed.place_most, few.0, few.1)

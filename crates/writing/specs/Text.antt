@@ -1,10 +1,10 @@
 -- The text and the pairs that an outline is written as.
 use Rattle.std.specs.Prelude.{if◌then◌else◌, ℕ, List, [], ◌∷◌, ◌++◌}
-use Rattle.outline.specs.Outline.{price, plate, isTaxon}
+use Rattle.outline.specs.Outline.{price, plate, is_taxon}
 use Rattle.diversity.specs.Diversity.{clade}
 use Rattle.text.specs.Text.{decimal, texts}
 use Rattle.newick.specs.Grammar.{Kind, part, Tree, taxon, group, last, more}
-use Rattle.newick.specs.Trees.{treeOf}
+use Rattle.newick.specs.Trees.{tree_of}
 
 -- a tree in its one spelling: no blanks, tabs or line ends, no leading zeros, every length shown, members in their order.
 -- Brackets are bytes 40 and 41, the comma is 44, the colon 58
@@ -15,17 +15,17 @@ spelling (last t) = spelling t
 spelling (more t ms) = spelling t ++ (44 ∷ spelling ms)
 
 -- the semicolon, byte 59, ends it
-unfoldable pub textOf : Tree part → List ℕ
-textOf t = spelling t ++ (59 ∷ [])
+unfoldable pub text_of : Tree part → List ℕ
+text_of t = spelling t ++ (59 ∷ [])
 
 -- an outline's text: its tree, members in chain order
-abbrev pub outlineText : List ℕ → List ℕ
-outlineText o = textOf (treeOf o)
+abbrev pub outline_text : List ℕ → List ℕ
+outline_text o = text_of (tree_of o)
 
 -- a taxon's pair, plate then price; a group has none
-unfoldable pub ownPair : List ℕ → ℕ → List ℕ
-ownPair o r = if isTaxon o r then plate o r ∷ price o r ∷ [] else []
+unfoldable pub own_pair : List ℕ → ℕ → List ℕ
+own_pair o r = if is_taxon o r then plate o r ∷ price o r ∷ [] else []
 
 -- an outline's pairs, in text order: record 1, then all below it, each record before its members
-unfoldable pub outlinePairs : List ℕ → List ℕ
-outlinePairs o = texts (ownPair o) (clade o 1)
+unfoldable pub outline_pairs : List ℕ → List ℕ
+outline_pairs o = texts (own_pair o) (clade o 1)

@@ -1,7 +1,7 @@
 // A chain as text, by recursion over the links. Each function takes the place where its text begins and answers the place after it.
 ghost use Rattle.std.specs.Prelude.{if◌then◌else◌, [], ◌∷◌};
 ghost use Rattle.text.specs.Written.{LongEnough, Written};
-ghost use Rattle.writing.specs.Inner.{head, tail, chainText, Along};
+ghost use Rattle.writing.specs.Inner.{head, tail, chain_text, Along};
 ghost use Rattle.outline.specs.Outline.{IsRecord};
 
 use outline::fields::{branch_of, first_of, is_taxon, next_of, plate_of};
@@ -45,8 +45,8 @@ fn put_tail(o: &[u8], r: usize, text: &mut [u8], at: usize) -> usize
 // The text of the chain that a link begins: nothing for 0.
 pub fn put_chain(o: &[u8], r: usize, text: &mut [u8], at: usize) -> usize
     requires along { Along o.now r }
-    requires long_enough { LongEnough at (chainText o.now r) text.old }
-    ensures { Written at (chainText o.now r) text.old text.new result }
+    requires long_enough { LongEnough at (chain_text o.now r) text.old }
+    ensures { Written at (chain_text o.now r) text.old text.new result }
 {
     if r == 0 {
         return at;

@@ -3,8 +3,8 @@ ghost use Rattle.std.specs.Prelude.{◌≡◌, ◌≤◌, length};
 ghost use Rattle.lists.specs.Lists.{total};
 ghost use Rattle.outline.specs.Outline.{size, records, IsRecord};
 ghost use Rattle.text.specs.Text.{decimal};
-ghost use Rattle.writing.specs.Inner.{ownBytes};
-ghost use Rattle.outline.specs.Rules.{mostRecords};
+ghost use Rattle.writing.specs.Inner.{own_bytes};
+ghost use Rattle.outline.specs.Rules.{most_records};
 
 use outline::fields::{branch_of, is_taxon, next_of, plate_of};
 
@@ -23,7 +23,7 @@ fn digits_of(n: u32) -> usize
 // How many bytes of the text are a record's own: a plate or two brackets, the colon, the length, a comma before another.
 fn own_bytes(o: &[u8], r: usize) -> usize
     requires { IsRecord o.now r }
-    ensures value { result ≡ ownBytes o.now r }
+    ensures value { result ≡ own_bytes o.now r }
     ensures upper_bound { result ≤ 30 }
 {
     let after = digits_of(branch_of(o, r)) + 1 + (next_of(o, r) != 0) as usize;
@@ -35,8 +35,8 @@ fn own_bytes(o: &[u8], r: usize) -> usize
 
 // The bytes of all records.
 pub fn bytes_of(o: &[u8]) -> usize
-    requires { size o.now ≤ mostRecords }
-    ensures { result ≡ total (ownBytes o.now) (records o.now) }
+    requires { size o.now ≤ most_records }
+    ensures { result ≡ total (own_bytes o.now) (records o.now) }
 {
     let n = o.len() / 16;
     let mut sum = 0;

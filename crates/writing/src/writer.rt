@@ -1,7 +1,7 @@
 // Writing an outline as text and price pairs.
 ghost use Rattle.std.specs.Prelude.{◌≡◌};
 ghost use Rattle.lists.specs.Lists.{over};
-ghost use Rattle.writing.specs.Text.{outlineText, outlinePairs};
+ghost use Rattle.writing.specs.Text.{outline_text, outline_pairs};
 ghost use Rattle.writing.specs.Answer.{call, told, Answered};
 ghost use Rattle.writing.specs.Inner.{Writable};
 
@@ -18,8 +18,8 @@ use text::put_byte;
 // Writes an outline for which no row holds.
 fn write_all(outline: &[u8], text: &mut [u8], pairs: &mut [u32])
     requires { Writable outline.now text.old pairs.old }
-    ensures text_after { text.new ≡ over (outlineText outline.now) text.old }
-    ensures pairs_after { pairs.new ≡ over (outlinePairs outline.now) pairs.old }
+    ensures text_after { text.new ≡ over (outline_text outline.now) text.old }
+    ensures pairs_after { pairs.new ≡ over (outline_pairs outline.now) pairs.old }
 {
     let end = put_chain(outline, 1, text, 0);
     put_byte(text, end, 59);

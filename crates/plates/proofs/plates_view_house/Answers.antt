@@ -1,6 +1,6 @@
 -- `plates::plates_view_house` meets its contract.
-use Rattle.view.proofs.Bounds.{place-most}
+use Rattle.view.proofs.Bounds.{place_most}
 use Rattle.plates.proofs.plates_view_house.Goals as goal
 
 pub tell-requires : goal.tell-requires
-tell-requires c = place-most _ _ c.view_house-verdict.ensures
+tell-requires c = place_most _ _ c.view_house-verdict.ensures

@@ -1,7 +1,7 @@
 -- `records::put_short` meets its contract: two bytes are written one after the other.
 use Rattle.std.proofs.Common.{arith, length-set}
 use Rattle.outline.specs.Outline.{bytes}
-use Rattle.text.proofs.Writing.{written-two}
+use Rattle.text.proofs.Writing.{written_two}
 use Rattle.records.proofs.put_short.Goals as goal
 
 pub bounds-buffer-at : goal.bounds-buffer-at
@@ -14,4 +14,4 @@ bounds-buffer-at-2 c = rw length-set (omega arith)
 
 pub returns : goal.returns
 unfolding bytes
-returns c = written-two _ _ _ _ c.requires
+returns c = written_two _ _ _ _ c.requires

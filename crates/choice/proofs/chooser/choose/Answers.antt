@@ -1,30 +1,30 @@
 -- `choice::chooser::choose` meets its contract: a refusal of the table, or a selection.
 use Rattle.std.proofs.Common.{◌≡◌, sym, true}
 use Rattle.refusals.specs.Refusals.{passed}
-use Rattle.choice.specs.Answer.{Call, judged, isSelected}
-use Rattle.choice.proofs.Answers.{selected-solvable, part-inside, part-long, part-solvable, solved-answered, refused-answered}
+use Rattle.choice.specs.Answer.{Call, judged, is_selected}
+use Rattle.choice.proofs.Answers.{selected_solvable, part_inside, part_long, part_solvable, solved_answered, refused_answered}
 use Rattle.choice.proofs.chooser.choose.Goals as goal
 
 -- no row holds
-accepted : (k : Call) → passed ≡ judged k → isSelected k ≡ true
+accepted : (k : Call) → passed ≡ judged k → is_selected k ≡ true
 accepted k e = rw (← e)
 
 pub work_taken-taken-requires : goal.work_taken-taken-requires
 work_taken-taken-requires c =
-    let s = selected-solvable _ (accepted _ c.in-Accepted.ensures) in
-    record { records = s.formed.size-most; columns = s.low }
+    let s = selected_solvable _ (accepted _ c.in-Accepted.ensures) in
+    record { records = s.formed.size_most; columns = s.low }
 
 pub slice_bounds-solve-end : goal.slice_bounds-solve-end
-slice_bounds-solve-end c = part-inside _ (accepted _ c.in-Accepted.ensures) _ c.work_taken-taken.ensures
+slice_bounds-solve-end c = part_inside _ (accepted _ c.in-Accepted.ensures) _ c.work_taken-taken.ensures
 
 pub slice_bounds-solve-end-in-Accepted : goal.slice_bounds-solve-end-in-Accepted
-slice_bounds-solve-end-in-Accepted c = sym (part-long _ (accepted _ c.in-Accepted.ensures) _ c.work_taken-taken.ensures)
+slice_bounds-solve-end-in-Accepted c = sym (part_long _ (accepted _ c.in-Accepted.ensures) _ c.work_taken-taken.ensures)
 
 pub solve-requires : goal.solve-requires
-solve-requires c = part-solvable _ (accepted _ c.in-Accepted.ensures) _ c.work_taken-taken.ensures
+solve-requires c = part_solvable _ (accepted _ c.in-Accepted.ensures) _ c.work_taken-taken.ensures
 
 pub returns-in-Refused : goal.returns-in-Refused
-returns-in-Refused c = refused-answered _ c.in-Refused.refusal c.in-Refused.ensures
+returns-in-Refused c = refused_answered _ c.in-Refused.refusal c.in-Refused.ensures
 
 pub returns-in-Accepted : goal.returns-in-Accepted
-returns-in-Accepted c = solved-answered _ (accepted _ c.in-Accepted.ensures) _ c.work_taken-taken.ensures c.solve.ensures
+returns-in-Accepted c = solved_answered _ (accepted _ c.in-Accepted.ensures) _ c.work_taken-taken.ensures c.solve.ensures

@@ -1,17 +1,17 @@
 -- `choice::chooser::solve` meets its contract: the filled table is read out, and then cleared.
 use Rattle.std.proofs.Common.{arith, ap, ◌∙◌, replicate}
-use Rattle.choice.specs.Answer.{diversityAt}
+use Rattle.choice.specs.Answer.{diversity_at}
 use Rattle.choice.specs.Inner.{level}
-use Rattle.choice.proofs.Solving.{alike-most, solved}
+use Rattle.choice.proofs.Solving.{alike_most, solved}
 use Rattle.choice.proofs.chooser.solve.Goals as goal
 
 pub overflow_cast-result : goal.overflow_cast-result
 overflow_cast-result c =
     let curve = c.write_curve.new.curve in
-    record { fits = omega (arith, c.spare_of.ensures, alike-most (level curve (diversityAt curve c.args.count)) c.args.count) }
+    record { fits = omega (arith, c.spare_of.ensures, alike_most (level curve (diversity_at curve c.args.count)) c.args.count) }
 
 pub returns : goal.returns
 returns c =
     let cleared = c.clear.ensures ∙ ap (λ n. replicate n 0) c.fill.auto.work in
     solved _ c.requires c.fill.new.work c.fill.ensures c.best_at-best.result c.best_at-best.ensures
-    c.write_marks.ensures c.locks_of.ensures c.write_curve.ensures cleared c.marked.ensures.taxa-is c.spare_of.ensures
+    c.write_marks.ensures c.locks_of.ensures c.write_curve.ensures cleared c.marked.ensures.taxa_is c.spare_of.ensures

@@ -1,20 +1,20 @@
 -- `choice::curve::column_of` meets its contract: by whether the candidate holds all the locked taxa.
 use Rattle.std.proofs.Common.{arith, sym, ◌∙◌}
-use Rattle.choice.proofs.Shown.{parts-low, shown-own, shown-blank}
+use Rattle.choice.proofs.Shown.{parts_low, shown_own, shown_blank}
 use Rattle.choice.proofs.curve.column_of.Goals as goal
 
 pub returns-then-locked-locks : goal.returns-then-locked-locks
 returns-then-locked-locks c =
-    let blank = shown-blank _ (λ e. c.if-locked-locks.true (c.locked.ensures ∙ e)) in
-    record { diversity-is = blank.0; cost-is = blank.1 }
+    let blank = shown_blank _ (λ e. c.if-locked-locks.true (c.locked.ensures ∙ e)) in
+    record { diversity_is = blank.0; cost_is = blank.1 }
 
 pub overflow_cast-result : goal.overflow_cast-result
-overflow_cast-result c = record { fits = omega (arith, parts-low c.args.best) }
+overflow_cast-result c = record { fits = omega (arith, parts_low c.args.best) }
 
 pub overflow_cast-result-2 : goal.overflow_cast-result-2
-overflow_cast-result-2 c = record { fits = omega (arith, parts-low c.args.best) }
+overflow_cast-result-2 c = record { fits = omega (arith, parts_low c.args.best) }
 
 pub returns : goal.returns
 returns c =
-    let own = shown-own _ (sym c.locked.ensures ∙ c.if-locked-locks.false) in
-    record { diversity-is = c.diversity.ensures ∙ own.0; cost-is = c.cost.ensures ∙ own.1 }
+    let own = shown_own _ (sym c.locked.ensures ∙ c.if-locked-locks.false) in
+    record { diversity_is = c.diversity.ensures ∙ own.0; cost_is = c.cost.ensures ∙ own.1 }

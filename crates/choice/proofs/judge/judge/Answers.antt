@@ -2,15 +2,15 @@
 use Rattle.std.proofs.Common.{ℕ, ◌<◌, ◌≤◌, ◌≡◌, List, sym, ap, Bool, true, false, ◌&&◌, not, nat_eq, lt-ltb, le-ltb}
 use Rattle.refusals.specs.Refusals.{Ruling, ruling, passed, refusal}
 use Rattle.refusals.specs.declared.verdict.Refusal.{Refusal}
-use Rattle.refusals.proofs.Refusals.{refusal-not-zero}
+use Rattle.refusals.proofs.Refusals.{refusal_not_zero}
 use Rattle.outline.specs.Outline.{size}
-use Rattle.outline.specs.Rules.{mostRecords}
-use Rattle.outline.specs.Answer.{sizeRows, recordRows}
-use Rattle.outline.proofs.WellFormed.{sizes-formed, rows-kept}
+use Rattle.outline.specs.Rules.{most_records}
+use Rattle.outline.specs.Answer.{size_rows, record_rows}
+use Rattle.outline.proofs.WellFormed.{sizes_formed, rows_kept}
 use Rattle.diversity.specs.Diversity.{cost}
-use Rattle.laws.specs.Locks.{lockedSet}
-use Rattle.laws.proofs.Optimum.{none-exactly}
-use Rattle.choice.specs.Answer.{Call, mostCount, tooShort, judged}
+use Rattle.laws.specs.Locks.{locked_set}
+use Rattle.laws.proofs.Optimum.{none_exactly}
+use Rattle.choice.specs.Answer.{Call, most_count, too_short, judged}
 use Rattle.choice.proofs.judge.judge.Goals as goal
 
 -- the condition of row 1
@@ -24,40 +24,40 @@ module _ (k : Call) where
   row1-holds h = rw h
 
   module _ (known : unknownWay k ≡ false) where
-    sizes-hold : (e : Refusal) → refusal e ≡ sizeRows k.outline → refusal e ≡ judged k
+    sizes-hold : (e : Refusal) → refusal e ≡ size_rows k.outline → refusal e ≡ judged k
     unfolding judged
-    sizes-hold e h = rw (known, ← h, refusal-not-zero e)
+    sizes-hold e h = rw (known, ← h, refusal_not_zero e)
 
-    module _ (sized : passed ≡ sizeRows k.outline) where
-      row4-holds : mostCount < k.count → ruling 4 0 ≡ judged k
+    module _ (sized : passed ≡ size_rows k.outline) where
+      row4-holds : most_count < k.count → ruling 4 0 ≡ judged k
       unfolding judged
-      row4-holds h = rw (known, ← sized, lt-ltb mostCount k.count h)
+      row4-holds h = rw (known, ← sized, lt-ltb most_count k.count h)
 
-      module _ (low : k.count ≤ mostCount) where
-        records-hold : (e : Refusal) → refusal e ≡ recordRows k.outline → refusal e ≡ judged k
+      module _ (low : k.count ≤ most_count) where
+        records-hold : (e : Refusal) → refusal e ≡ record_rows k.outline → refusal e ≡ judged k
         unfolding judged
-        records-hold e h = rw (known, ← sized, le-ltb mostCount k.count low, ← h, refusal-not-zero e)
+        records-hold e h = rw (known, ← sized, le-ltb most_count k.count low, ← h, refusal_not_zero e)
 
-        module _ (kept : passed ≡ recordRows k.outline) where
-          row9-holds : tooShort k ≡ true → ruling 9 0 ≡ judged k
+        module _ (kept : passed ≡ record_rows k.outline) where
+          row9-holds : too_short k ≡ true → ruling 9 0 ≡ judged k
           unfolding judged
-          row9-holds h = rw (known, ← sized, le-ltb mostCount k.count low, ← kept, h)
+          row9-holds h = rw (known, ← sized, le-ltb most_count k.count low, ← kept, h)
 
-          module _ (long : tooShort k ≡ false) {dear : ℕ} (is : dear ≡ cost k.outline (lockedSet k.outline)) where
+          module _ (long : too_short k ≡ false) {dear : ℕ} (is : dear ≡ cost k.outline (locked_set k.outline)) where
             row12-holds : k.count < dear → ruling 12 0 ≡ judged k
             unfolding judged
-            row12-holds h = rw (known, ← sized, le-ltb mostCount k.count low, ← kept, long, none-exactly, ← is, lt-ltb k.count dear h)
+            row12-holds h = rw (known, ← sized, le-ltb most_count k.count low, ← kept, long, none_exactly, ← is, lt-ltb k.count dear h)
 
             none-holds : dear ≤ k.count → passed ≡ judged k
             unfolding judged
-            none-holds h = rw (known, ← sized, le-ltb mostCount k.count low, ← kept, long, none-exactly, ← is, le-ltb k.count dear h)
+            none-holds h = rw (known, ← sized, le-ltb most_count k.count low, ← kept, long, none_exactly, ← is, le-ltb k.count dear h)
 
 -- rows of which none is given have the number 0
 none-given : {t : Ruling} → passed ≡ t → t.number ≡ 0
 none-given e = ap (λ (t : Ruling). t.number) (sym e)
 
-few : (o : List ℕ) → passed ≡ sizeRows o → size o ≤ mostRecords
-few o e = (sizes-formed o (none-given e)).2
+few : (o : List ℕ) → passed ≡ size_rows o → size o ≤ most_records
+few o e = (sizes_formed o (none-given e)).2
 
 pub returns-then-way : goal.returns-then-way
 returns-then-way c = row1-holds _ c.if-way.true
@@ -80,22 +80,22 @@ pub work_taken-requires : goal.work_taken-requires
 work_taken-requires c = record { records = few _ c.in_default.ensures; columns = c.if-count-gt-MOST_COUNT.false }
 
 pub returns-then-marks_short-curve_short : goal.returns-then-marks_short-curve_short
-unfolding tooShort
+unfolding too_short
 returns-then-marks_short-curve_short c =
     row9-holds _ c.if-way.false c.in_default.ensures c.if-count-gt-MOST_COUNT.false c.in_default-records.ensures
     (rw c.work_taken.ensures at c.if-marks_short-curve_short.true)
 
 pub locked_cost-requires : goal.locked_cost-requires
-locked_cost-requires c = rows-kept _ (none-given c.in_default.ensures) (none-given c.in_default-records.ensures)
+locked_cost-requires c = rows_kept _ (none-given c.in_default.ensures) (none-given c.in_default-records.ensures)
 
 pub returns-then-count-locked_cost : goal.returns-then-count-locked_cost
-unfolding tooShort
+unfolding too_short
 returns-then-count-locked_cost c =
     row12-holds _ c.if-way.false c.in_default.ensures c.if-count-gt-MOST_COUNT.false c.in_default-records.ensures
     (rw c.work_taken.ensures at c.if-marks_short-curve_short.false) c.locked_cost.ensures c.if-count-locked_cost.true
 
 pub returns : goal.returns
-unfolding tooShort
+unfolding too_short
 returns c =
     none-holds _ c.if-way.false c.in_default.ensures c.if-count-gt-MOST_COUNT.false c.in_default-records.ensures
     (rw c.work_taken.ensures at c.if-marks_short-curve_short.false) c.locked_cost.ensures c.if-count-locked_cost.false

@@ -1,22 +1,22 @@
 -- `listing::taxa::put_sheet` meets its contract: the set is listed, and the lines come from its sheet.
 use Rattle.std.proofs.Common.{◌≡◌, ℕ, List, [], ◌∷◌, ◌++◌, replicate, arith, subst}
 use Rattle.refusals.specs.Reply.{Reply}
-use Rattle.sheet.specs.Answer.{Call, call, Figures, Answered, judged, markedSet}
+use Rattle.sheet.specs.Answer.{Call, call, Figures, Answered, judged, marked_set}
 use Rattle.text.specs.Text.{labelled}
 use Rattle.text.specs.Written.{LongEnough}
-use Rattle.text.proofs.Writing.{Left, left-starts, left-fits, left-goes, left-last}
-use Rattle.listing.specs.FromBuffers.{taxaText}
-use Rattle.listing.specs.Printed.{totalWord, sheetText}
-use Rattle.listing.proofs.Answers.{sheet-lines, rows-inside, not-refused}
+use Rattle.text.proofs.Writing.{Left, left_starts, left_fits, left_goes, left_last}
+use Rattle.listing.specs.FromBuffers.{taxa_text}
+use Rattle.listing.specs.Printed.{total_word, sheet_text}
+use Rattle.listing.proofs.Answers.{sheet_lines, rows_inside, not_refused}
 use Rattle.listing.proofs.taxa.put_sheet.Goals as goal
 
 -- the lines are yet to be written
 begun : (c : Call) {r : Reply Figures} {at : ℕ} {lent buffer : List ℕ} → Answered c r lent → (judged c).number ≡ 0
-    → LongEnough at (sheetText c.outline c.way (markedSet c)) buffer
-    → Left at (sheetText c.outline c.way (markedSet c)) buffer at (taxaText lent r.figures.rows ++ labelled totalWord (r.figures.quarters ∷ r.figures.diversity ∷ [])) buffer
+    → LongEnough at (sheet_text c.outline c.way (marked_set c)) buffer
+    → Left at (sheet_text c.outline c.way (marked_set c)) buffer at (taxa_text lent r.figures.rows ++ labelled total_word (r.figures.quarters ∷ r.figures.diversity ∷ [])) buffer
 begun c {at = at} {buffer = buffer} x passes h =
-    let whole = sheetText c.outline c.way (markedSet c) in
-    subst (λ t. Left at whole buffer at t buffer) (sheet-lines c x passes) (left-starts h)
+    let whole = sheet_text c.outline c.way (marked_set c) in
+    subst (λ t. Left at whole buffer at t buffer) (sheet_lines c x passes) (left_starts h)
 
 -- the call of `sheet`, which is lent 192 numbers
 abbrev called : List ℕ → ℕ → List ℕ → Call
@@ -26,9 +26,9 @@ pub put_taxa-total-requires : goal.put_taxa-total-requires
 put_taxa-total-requires c =
     let a = c.args in
     let sheet = called a.o.now a.way a.marks.now in
-    let inside = rows-inside sheet c.in-Listed.ensures c.requires.listed in (
+    let inside = rows_inside sheet c.in-Listed.ensures c.requires.listed in (
       omega (arith, inside, c.sheet.auto.sheet),
-      left-fits (taxaText c.sheet.new.sheet c.in-Listed.rows) _
+      left_fits (taxa_text c.sheet.new.sheet c.in-Listed.rows) _
           (begun sheet c.in-Listed.ensures c.requires.listed c.requires.long_enough),
     )
 
@@ -36,15 +36,15 @@ pub put_labelled-requires : goal.put_labelled-requires
 put_labelled-requires c =
     let a = c.args in
     let start = begun (called a.o.now a.way a.marks.now) c.in-Listed.ensures c.requires.listed c.requires.long_enough in
-    (left-goes (taxaText c.sheet.new.sheet c.in-Listed.rows) _ start c.put_taxa-total.ensures).fits
+    (left_goes (taxa_text c.sheet.new.sheet c.in-Listed.rows) _ start c.put_taxa-total.ensures).fits
 
 pub returns-in-Listed : goal.returns-in-Listed
 returns-in-Listed c =
     let a = c.args in
     let start = begun (called a.o.now a.way a.marks.now) c.in-Listed.ensures c.requires.listed c.requires.long_enough in
-    left-last (left-goes (taxaText c.sheet.new.sheet c.in-Listed.rows) _ start c.put_taxa-total.ensures) c.put_labelled.ensures
+    left_last (left_goes (taxa_text c.sheet.new.sheet c.in-Listed.rows) _ start c.put_taxa-total.ensures) c.put_labelled.ensures
 
 pub returns-in-Refused : goal.returns-in-Refused
 returns-in-Refused c =
     let a = c.args in
-    absurd (not-refused (called a.o.now a.way a.marks.now) c.in-Refused.field-0 c.in-Refused.ensures c.requires.listed)
+    absurd (not_refused (called a.o.now a.way a.marks.now) c.in-Refused.field-0 c.in-Refused.ensures c.requires.listed)

@@ -1,19 +1,19 @@
 -- `measures::chain::measure_clade` meets its contract: the record counts where a taxon at or below it is chosen.
 use Rattle.std.proofs.Common.{◌+◌, ap}
-use Rattle.lists.proofs.Bools.{byte-one}
+use Rattle.lists.proofs.Bools.{byte_one}
 use Rattle.diversity.specs.Diversity.{chosen}
-use Rattle.measures.proofs.Parts.{taxa-fit, cost-fits, diversity-fits, clade-measured}
+use Rattle.measures.proofs.Parts.{taxa_fit, cost_fits, diversity_fits, clade_measured}
 use Rattle.measures.proofs.chain.measure_clade.Goals as goal
 
 pub overflow_add-below : goal.overflow_add-below
-overflow_add-below c = record { fits = taxa-fit c.requires _ }
+overflow_add-below c = record { fits = taxa_fit c.requires _ }
 
 pub overflow_add-result : goal.overflow_add-result
-overflow_add-result c = record { fits = cost-fits c.requires _ c.price_counted.ensures }
+overflow_add-result c = record { fits = cost_fits c.requires _ c.price_counted.ensures }
 
 pub overflow_add-result-2 : goal.overflow_add-result-2
-overflow_add-result-2 c = record { fits = diversity-fits c.requires _ c.branch_counted.ensures }
+overflow_add-result-2 c = record { fits = diversity_fits c.requires _ c.branch_counted.ensures }
 
 pub returns : goal.returns
 unfolding chosen
-returns c = clade-measured c.requires (ap (λ k. c.args.members.taxa + k) (byte-one _)) c.price_counted.ensures c.branch_counted.ensures
+returns c = clade_measured c.requires (ap (λ k. c.args.members.taxa + k) (byte_one _)) c.price_counted.ensures c.branch_counted.ensures

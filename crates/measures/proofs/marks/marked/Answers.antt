@@ -1,14 +1,14 @@
-use Rattle.lists.proofs.Bools.{byte-one, one-le}
-use Rattle.lists.proofs.Walk.{summing-goes, summing-ends}
+use Rattle.lists.proofs.Bools.{byte_one, one_le}
+use Rattle.lists.proofs.Walk.{summing_goes, summing_ends}
 use Rattle.outline.specs.Outline.{records}
-use Rattle.diversity.specs.Diversity.{chosen, chosenTaxa}
-use Rattle.measures.proofs.Parts.{taxa-few}
+use Rattle.diversity.specs.Diversity.{chosen, chosen_taxa}
+use Rattle.measures.proofs.Parts.{taxa_few}
 use Rattle.measures.proofs.marks.marked.Goals as goal
 
 pub loop-r-preserved : goal.loop-r-preserved
 unfolding chosen
-loop-r-preserved c = summing-goes _ _ c.loop-r.invariant c.loop-r-test.true (byte-one _) (rw (byte-one _) (one-le _))
+loop-r-preserved c = summing_goes _ _ c.loop-r.invariant c.loop-r-test.true (byte_one _) (rw (byte_one _) (one_le _))
 
 pub returns : goal.returns
-unfolding chosenTaxa records
-returns c = taxa-few c.requires (summing-ends _ _ c.loop-r.invariant c.loop-r-test.false)
+unfolding chosen_taxa records
+returns c = taxa_few c.requires (summing_ends _ _ c.loop-r.invariant c.loop-r-test.false)

@@ -1,14 +1,14 @@
 -- `newick::token::token_at`: a blank leaves the tokens as they are, and each way out meets the first of them.
 use Rattle.std.proofs.Common.{refl, rules}
-use Rattle.newick.proofs.Tokens.{skipping-goes, skipping-meets, skipping-ends}
+use Rattle.newick.proofs.Tokens.{skipping_goes, skipping_meets, skipping_ends}
 use Rattle.newick.proofs.token.token_at.Goals as goal
 
 pub loop-i-preserved : goal.loop-i-preserved
-loop-i-preserved c = skipping-goes c.loop-i.invariant c.loop-i-test.true c.in-Blank.ensures refl
+loop-i-preserved c = skipping_goes c.loop-i.invariant c.loop-i-test.true c.in-Blank.ensures refl
 
 pub returns-in_default : goal.returns-in_default
 returns-in_default c =
-    skipping-meets c.loop-i.invariant c.loop-i-test.true c.sign_of-sign.ensures (search rules) c.token_of.ensures
+    skipping_meets c.loop-i.invariant c.loop-i-test.true c.sign_of-sign.ensures (search rules) c.token_of.ensures
 
 pub returns : goal.returns
-returns c = skipping-ends c.loop-i.invariant c.loop-i-test.false
+returns c = skipping_ends c.loop-i.invariant c.loop-i-test.false

@@ -1,13 +1,13 @@
 -- `outline::rules::has_plate` meets its contract.
 use Rattle.std.proofs.Common.{eq-eqb, ne_eqb}
-use Rattle.lists.proofs.Bools.{and-false, and-true}
-use Rattle.outline.specs.Rules.{hasPlate}
+use Rattle.lists.proofs.Bools.{and_false, and_true}
+use Rattle.outline.specs.Rules.{has_plate}
 use Rattle.outline.proofs.rules.has_plate.Goals as goal
 
 pub returns-then-plate_of-plate : goal.returns-then-plate_of-plate
-unfolding hasPlate
-returns-then-plate_of-plate c = simp (← c.plate_of.ensures, ne_eqb _ _ c.if-plate_of-plate.true, and-false)
+unfolding has_plate
+returns-then-plate_of-plate c = simp (← c.plate_of.ensures, ne_eqb _ _ c.if-plate_of-plate.true, and_false)
 
 pub returns : goal.returns
-unfolding hasPlate
-returns c = simp (← c.plate_of.ensures, eq-eqb _ _ c.if-plate_of-plate.false, ← c.is_taxon.ensures, and-true)
+unfolding has_plate
+returns c = simp (← c.plate_of.ensures, eq-eqb _ _ c.if-plate_of-plate.false, ← c.is_taxon.ensures, and_true)

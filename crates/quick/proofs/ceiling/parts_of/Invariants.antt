@@ -1,13 +1,13 @@
 -- `quick::ceiling::parts_of` meets its contract: a sum over the records.
 use Rattle.std.proofs.Common.{◌+◌, ◌-◌, ◌*◌}
 use Rattle.lists.proofs.Walk.{Summing}
-use Rattle.outline.specs.Rules.{mostRecords, mostLength}
-use Rattle.quick.specs.Inner.{ceilingPart, SumsUpTo}
+use Rattle.outline.specs.Rules.{most_records, most_length}
+use Rattle.quick.specs.Inner.{ceiling_part, SumsUpTo}
 use Rattle.quick.proofs.ceiling.parts_of.Given as goal
 
 abbrev pub invariant-loop-r : goal.invariant-loop-r
 invariant-loop-r l =
-    Summing (mostRecords * mostLength) (ceilingPart l.o l.count l.marks) l.n l.sum l.r
+    Summing (most_records * most_length) (ceiling_part l.o l.count l.marks) l.n l.sum l.r
     × SumsUpTo l.o l.marks l.r (record { added = l.sums.added; costs = l.sums.costs })
 
 abbrev pub decreases-loop-r : goal.decreases-loop-r

@@ -1,30 +1,30 @@
 -- `quick::picker::look_at` meets its contract.
 use Rattle.std.proofs.Common.{arith}
-use Rattle.quick.proofs.Adding.{sums-pass, held-kept, can-add, sums-add, sums-long, known-before}
+use Rattle.quick.proofs.Adding.{sums_pass, held_kept, can_add, sums_add, sums_long, known_before}
 use Rattle.quick.proofs.picker.look_at.Goals as goal
 
 pub returns-then-held-r-eq1 : goal.returns-then-held-r-eq1
 returns-then-held-r-eq1 c =
     let e = c.if-held-r-eq1.true in
-    record { hand-is = held-kept c.requires e _; sums-are = sums-pass c.requires e }
+    record { hand_is = held_kept c.requires e _; sums_are = sums_pass c.requires e }
 
 pub add_up-requires : goal.add_up-requires
-add_up-requires c = can-add c.requires c.if-held-r-eq1.false
+add_up-requires c = can_add c.requires c.if-held-r-eq1.false
 
 pub in_hand-requires : goal.in_hand-requires
 in_hand-requires c =
     let l = c.requires in
-    let u = sums-add l c.if-held-r-eq1.false c.add_up.ensures in
+    let u = sums_add l c.if-held-r-eq1.false c.add_up.ensures in
     record {
       at = record {
         base = l.ready.base.base;
-        is-record = l.is-record;
-        lengths = sums-long u;
-        known = known-before u _ l.is-record.low (omega arith);
+        is_record = l.is_record;
+        lengths = sums_long u;
+        known = known_before u _ l.is_record.low (omega arith);
       };
-      hand-most = omega (arith, l.hand-before, l.is-record.high);
-      hand-known = λ m. known-before u _ m (omega (arith, l.hand-before));
+      hand_most = omega (arith, l.hand_before, l.is_record.high);
+      hand_known = λ m. known_before u _ m (omega (arith, l.hand_before));
     }
 
 pub returns : goal.returns
-returns c = record { hand-is = c.in_hand.ensures; sums-are = sums-add c.requires c.if-held-r-eq1.false c.add_up.ensures }
+returns c = record { hand_is = c.in_hand.ensures; sums_are = sums_add c.requires c.if-held-r-eq1.false c.add_up.ensures }

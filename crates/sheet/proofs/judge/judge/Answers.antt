@@ -1,13 +1,13 @@
 -- `sheet::judge::judge` meets its contract: the rows that passed leave the answer to the next one.
 use Rattle.std.proofs.Common.{◌≡◌, ◌≤◌, false, ◌&&◌, not, eqb, ltb, length, arith, sym, ◌∙◌, lt-ltb, le-ltb, ne_eqb}
 use Rattle.lists.specs.Lists.{lowest}
-use Rattle.refusals.specs.Refusals.{Ruling, passed, ◌▸◌, row, rowAt}
-use Rattle.refusals.proofs.Refusals.{refusal-not-zero}
+use Rattle.refusals.specs.Refusals.{Ruling, passed, ◌▸◌, row, row_at}
+use Rattle.refusals.proofs.Refusals.{refusal_not_zero}
 use Rattle.outline.specs.Outline.{size, records}
 use Rattle.outline.specs.Answer.{checked}
-use Rattle.outline.proofs.WellFormed.{accepted-formed}
-use Rattle.laws.proofs.Prefixes.{taxa-whole}
-use Rattle.sheet.specs.Answer.{Call, call, badMark, sheetTaken, judged}
+use Rattle.outline.proofs.WellFormed.{accepted_formed}
+use Rattle.laws.proofs.Prefixes.{taxa_whole}
+use Rattle.sheet.specs.Answer.{Call, call, bad_mark, sheet_taken, judged}
 use Rattle.sheet.proofs.judge.judge.Goals as goal
 
 pub returns-then-way : goal.returns-then-way
@@ -17,16 +17,16 @@ returns-then-way c = simp c.if-way.true
 pub returns-in-Refused : goal.returns-in-Refused
 unfolding judged
 returns-in-Refused c =
-    let number : eqb (checked c.args.outline.now).number 0 ≡ false = rw (← c.in-Refused.ensures) (refusal-not-zero c.in-Refused.field-0) in
+    let number : eqb (checked c.args.outline.now).number 0 ≡ false = rw (← c.in-Refused.ensures) (refusal_not_zero c.in-Refused.field-0) in
     simp (c.if-way.false, number) c.check-checked.ensures
 
 -- the rows that are left where row 1 and the check's passed, and then those of row 14
 module _ (c : Call) where
   abbrev after14 : Ruling
-  after14 = row 9 (ltb (length c.sheet) (sheetTaken c))
+  after14 = row 9 (ltb (length c.sheet) (sheet_taken c))
 
   abbrev afterMarks : Ruling
-  afterMarks = rowAt 14 (badMark c.outline c.marks) (size c.outline) ▸ after14
+  afterMarks = row_at 14 (bad_mark c.outline c.marks) (size c.outline) ▸ after14
 
   module _ (way : (not (eqb c.way 0) && not (eqb c.way 1)) ≡ false) (accepted : passed ≡ checked c.outline) where
     passed8 : row 14 (ltb (length c.marks) (size c.outline)) ▸ afterMarks ≡ judged c
@@ -37,7 +37,7 @@ module _ (c : Call) where
       passedMarks : afterMarks ≡ judged c
       passedMarks = simp (le-ltb (length c.marks) (size c.outline) long) at passed8
 
-      passed14 : lowest (badMark c.outline c.marks) (records c.outline) ≡ 0 → after14 ≡ judged c
+      passed14 : lowest (bad_mark c.outline c.marks) (records c.outline) ≡ 0 → after14 ≡ judged c
       unfolding records
       passed14 none = simp none at passedMarks
 
@@ -54,18 +54,18 @@ returns-then-place-ne0 c =
     at (passedMarks a c.if-way.false c.in_default.ensures c.if-marks-outline.false)
 
 pub marked-requires : goal.marked-requires
-marked-requires c = record { formed = accepted-formed _ (rw (← c.in_default.ensures)); marks-long = c.if-marks-outline.false }
+marked-requires c = record { formed = accepted_formed _ (rw (← c.in_default.ensures)); marks_long = c.if-marks-outline.false }
 
 pub returns-then-sheet-marked : goal.returns-then-sheet-marked
 returns-then-sheet-marked c =
     let a = call c.args.outline.now c.args.way c.args.marks.now c.args.sheet.now in
     let none = sym c.bad_mark_at-place.ensures ∙ c.if-place-ne0.false in
-    simp (lt-ltb (length a.sheet) (sheetTaken a) (omega (arith, c.marked.ensures.taxa-is, taxa-whole a.marks a.outline)))
+    simp (lt-ltb (length a.sheet) (sheet_taken a) (omega (arith, c.marked.ensures.taxa_is, taxa_whole a.marks a.outline)))
     at (passed14 a c.if-way.false c.in_default.ensures c.if-marks-outline.false none)
 
 pub returns : goal.returns
 returns c =
     let a = call c.args.outline.now c.args.way c.args.marks.now c.args.sheet.now in
     let none = sym c.bad_mark_at-place.ensures ∙ c.if-place-ne0.false in
-    simp (le-ltb (length a.sheet) (sheetTaken a) (omega (arith, c.marked.ensures.taxa-is, taxa-whole a.marks a.outline)))
+    simp (le-ltb (length a.sheet) (sheet_taken a) (omega (arith, c.marked.ensures.taxa_is, taxa_whole a.marks a.outline)))
     at (passed14 a c.if-way.false c.in_default.ensures c.if-marks-outline.false none)

@@ -1,10 +1,10 @@
-use Rattle.sheet.proofs.Along.{onwards-goes, onwards-ends}
+use Rattle.sheet.proofs.Along.{onwards_goes, onwards_ends}
 use Rattle.sheet.proofs.outsides.outsides_of.Goals as goal
 
 pub loop-r-preserved : goal.loop-r-preserved
 loop-r-preserved c =
-    onwards-goes _ c.loop-r.invariant c.requires c.loop-r-test.true c.first_of-first.ensures c.next_of-next.ensures c.place_of.ensures
+    onwards_goes _ c.loop-r.invariant c.requires c.loop-r-test.true c.first_of-first.ensures c.next_of-next.ensures c.place_of.ensures
     c.lower_of-around.ensures c.lower_of.ensures c.lower_of-in-loop-r.ensures
 
 pub returns : goal.returns
-returns c = onwards-ends _ c.loop-r.invariant c.requires.base.formed.linked c.loop-r-test.false
+returns c = onwards_ends _ c.loop-r.invariant c.requires.base.formed.linked c.loop-r-test.false

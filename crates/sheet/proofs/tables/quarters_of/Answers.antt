@@ -1,14 +1,14 @@
 use Rattle.std.proofs.Common.{arith}
-use Rattle.sheet.proofs.Added.{adding-starts, adding-goes, quarters-end}
+use Rattle.sheet.proofs.Added.{adding_starts, adding_goes, quarters_end}
 use Rattle.sheet.proofs.tables.quarters_of.Goals as goal
 
 pub loop-r-init : goal.loop-r-init
-loop-r-init c = adding-starts _ _ _
+loop-r-init c = adding_starts _ _ _
 
 pub loop-r-preserved : goal.loop-r-preserved
 loop-r-preserved c =
-    adding-goes _ _ _ c.loop-r.invariant c.loop-r-test.true c.opened_at-at.ensures c.price_of.ensures
-    (omega (arith, c.price_of.ensures, (c.requires.base.formed.ranged _ c.loop-r.invariant.low c.loop-r-test.true).price-most))
+    adding_goes _ _ _ c.loop-r.invariant c.loop-r-test.true c.opened_at-at.ensures c.price_of.ensures
+    (omega (arith, c.price_of.ensures, (c.requires.base.formed.ranged _ c.loop-r.invariant.low c.loop-r-test.true).price_most))
 
 pub returns : goal.returns
-returns c = quarters-end c.requires.base.formed.size-most c.loop-r.invariant c.loop-r-test.false
+returns c = quarters_end c.requires.base.formed.size_most c.loop-r.invariant c.loop-r-test.false

@@ -1,23 +1,23 @@
 use Rattle.std.proofs.Common.{sym, ◌∙◌, ◌-◌, arith, rules}
-use Rattle.laws.proofs.Weights.{weight-last, weight-before, weight-most}
+use Rattle.laws.proofs.Weights.{weight_last, weight_before, weight_most}
 use Rattle.table.proofs.taxa.weight_of.Goals as goal
 use Rattle.table.proofs.taxa.weight_of.Goals.{then-is_taxon, else-is_taxon}
 
 pub loop-q-init : goal.loop-q-init
-loop-q-init c = (c.requires.is_record.high, search rules, sym (weight-last _))
+loop-q-init c = (c.requires.is_record.high, search rules, sym (weight_last _))
 
 pub overflow_mul-w : goal.overflow_mul-w
 overflow_mul-w c =
-    let before = weight-before c.args.o.now c.loop-q.q (omega arith) c.loop-q.invariant.1 in
+    let before = weight_before c.args.o.now c.loop-q.q (omega arith) c.loop-q.invariant.1 in
     omega (
       arith,
       rw (sym c.is_taxon.ensures ∙ c.if-is_taxon.true) at before,
-      weight-most c.args.o.now c.args.r (c.loop-q.q - 1) (omega arith) (omega arith),
+      weight_most c.args.o.now c.args.r (c.loop-q.q - 1) (omega arith) (omega arith),
     )
 
 pub loop-q-preserved : goal.loop-q-preserved
 loop-q-preserved c =
-    let before = weight-before c.args.o.now c.loop-q.q (omega arith) c.loop-q.invariant.1 in
+    let before = weight_before c.args.o.now c.loop-q.q (omega arith) c.loop-q.invariant.1 in
     let t = c.is_taxon.ensures in (
       omega arith,
       omega arith,

@@ -1,12 +1,12 @@
 -- `view::buyer::put_cleared` meets its contract: the record's own fields are written, but for its price and its lock.
-use Rattle.view.specs.View.{buyerRecord}
-use Rattle.view.proofs.Cleared.{record-fits}
+use Rattle.view.specs.View.{buyer_record}
+use Rattle.view.proofs.Cleared.{record_fits}
 use Rattle.view.proofs.buyer.put_cleared.Goals as goal
 
 pub put_record-requires : goal.put_record-requires
-put_record-requires c = record-fits c.requires _ _ _ _ _
+put_record-requires c = record_fits c.requires _ _ _ _ _
 
 pub returns : goal.returns
-unfolding buyerRecord
+unfolding buyer_record
 returns c =
     rw (← c.next_of-next.ensures, ← c.first_of-first.ensures, ← c.branch_of-branch.ensures, ← c.plate_of-plate.ensures) c.put_record.ensures

@@ -1,6 +1,6 @@
 -- `view::judge::judge` meets its contract: the check's rows, then the view's length.
 use Rattle.std.proofs.Common.{◌≡◌, ◌*◌, false, eqb, length, lt-ltb, le-ltb}
-use Rattle.refusals.proofs.Refusals.{refusal-not-zero}
+use Rattle.refusals.proofs.Refusals.{refusal_not_zero}
 use Rattle.outline.specs.Outline.{size}
 use Rattle.outline.specs.Answer.{checked}
 use Rattle.view.specs.Answer.{judged}
@@ -9,7 +9,7 @@ use Rattle.view.proofs.judge.judge.Goals as goal
 pub returns-in-Refused : goal.returns-in-Refused
 unfolding judged
 returns-in-Refused c =
-    let number : eqb (checked c.args.outline.now).number 0 ≡ false = rw (← c.in-Refused.ensures) (refusal-not-zero c.in-Refused.field-0) in
+    let number : eqb (checked c.args.outline.now).number 0 ≡ false = rw (← c.in-Refused.ensures) (refusal_not_zero c.in-Refused.field-0) in
     simp number c.check-checked.ensures
 
 pub returns-then-view-outline : goal.returns-then-view-outline

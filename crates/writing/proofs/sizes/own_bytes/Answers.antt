@@ -1,13 +1,13 @@
 -- `writing::sizes::own_bytes` meets its contract.
 use Rattle.std.proofs.Common.{sym}
-use Rattle.writing.proofs.OwnBytes.{own-taxon, own-group}
+use Rattle.writing.proofs.OwnBytes.{own_taxon, own_group}
 use Rattle.writing.proofs.sizes.own_bytes.Goals as goal
 
 pub returns-then-is_taxon-clause-value : goal.returns-then-is_taxon-clause-value
 returns-then-is_taxon-clause-value c =
-    own-taxon _ _ (sym c.if-is_taxon.ensures) c.plate_of.ensures c.digits_of-then-is_taxon.ensures.value c.branch_of.ensures
+    own_taxon _ _ (sym c.if-is_taxon.ensures) c.plate_of.ensures c.digits_of-then-is_taxon.ensures.value c.branch_of.ensures
     c.digits_of.ensures.value c.next_of.ensures
 
 pub returns-clause-value : goal.returns-clause-value
 returns-clause-value c =
-    own-group _ _ (sym c.if-is_taxon.ensures) c.branch_of.ensures c.digits_of.ensures.value c.next_of.ensures
+    own_group _ _ (sym c.if-is_taxon.ensures) c.branch_of.ensures c.digits_of.ensures.value c.next_of.ensures
