@@ -21,13 +21,14 @@ use Rattle.outline.specs.Outline.{size, price, plate}
 use Rattle.outline.specs.Rules.{most_records, most_taxa, bad_field, bad_link, taxa, is_duplicate}
 use Rattle.outline.specs.Answer.{record_rows, checked}
 use Rattle.outline.proofs.Demands.{records_give}
+use Rattle.diversity.specs.Order.{InTextOrder}
 use Rattle.newick.specs.Grammar.{part, Tree, Spells}
 use Rattle.newick.specs.Layout.{count, plates, layout}
 use Rattle.newick.specs.Pairs.{price_in, bad_pairs}
 use Rattle.newick.specs.Trees.{tree_of}
 use Rattle.newick.specs.Parsing.{Parsed, unread, tree, parsed}
-use Rattle.reading.specs.Answer.{Call, Figures, numbers_of, told, rows_for, judged, reply, outline_after, Answered}
-use Rattle.reading.specs.Demands.{In, Pair, OfTree, lowest_of_tree, read_table, ReadOrRefused, TreeGiven}
+use Rattle.reading.specs.Answer.{Call, Figures, numbers_of, told, rows_for, judged, reply, outline_after, outline_of, Answered}
+use Rattle.reading.specs.Demands.{In, Pair, OfTree, lowest_of_tree, read_table, table_of, parsed_table, ReadOrRefused, ParsedOrRefused, TreeGiven}
 use Rattle.reading.specs.declared.answer.Answer.{Answer}
 use Rattle.reading.proofs.Answers.{layout_length, layout_size}
 use Rattle.reading.proofs.Bounds.{layout_sized}
@@ -35,7 +36,7 @@ use Rattle.reading.proofs.Links.{layout_linked}
 use Rattle.reading.proofs.Pairing.{decides_pairs, pairs_once, priced}
 use Rattle.reading.proofs.Settled.{price_small, layout_settled}
 use Rattle.newick.proofs.Ranges.{spells_in_range}
-use Rattle.newick.proofs.Spelling.{parsed_sound, one_tree, unread_none}
+use Rattle.newick.proofs.Spelling.{parsed_sound, parsed_complete, one_tree, unread_none}
 
 -- the numbers told determine the answer
 pub told_determined : (a b : Answer) → told a ≡ told b → a ≡ b
@@ -95,6 +96,35 @@ module _ (c : Call) where
           (gives_then (lowest_of_tree_lem 5 bad_link t s)
           (gives_then (gives_whole 6 (decides_tree t s (decides_less most_taxa (taxa (layout (price_in c.pairs) t)))))
           (lowest_of_tree_lem 7 is_duplicate t s)))))))
+
+  -- no tree is spelled, so that none is spelled of which a condition holds
+  decides_none : {condition : Tree part → Type 0} → ((t : Tree part) → Spells t c.text → ⊥) → Decides (OfTree c condition) false
+  decides_none none = (λ h. absurd (false≢true h), λ (t, s, k). absurd (none t s))
+
+  parsed_gives : Gives (parsed_table c) (judged c)
+  unfolding judged
+  parsed_gives = go (parsed c.text) refl
+    where
+      go : (p : Parsed) → parsed c.text ≡ p → Gives (table_of c p) (rows_for p c.pairs (length c.outline))
+      go unread e =
+          unfold rows_for in
+          let none = unread_none c.text e in
+          gives_then (gives_whole 9 {b = true} (λ _. none, λ _. refl))
+          (gives_then (gives_whole 2 (decides_none none))
+          (gives_then (gives_whole 10 (decides_none none))
+          (gives_then (gives_whole 8 (decides_none none)) (records_give (outline_of c.pairs unread)))))
+      go (tree t) e =
+          unfold rows_for in
+          let s = parsed_sound t c.text e in
+          gives_then (gives_whole 9 {b = false} (λ h. absurd (false≢true h), λ n. absurd (n t s)))
+          (gives_then (gives_whole 2 (decides_tree t s (decides_less most_records (count t))))
+          (gives_then (gives_whole 10 (decides_tree t s (decides_pairs (plates t) c.pairs)))
+          (gives_then (gives_whole 8 (decides_tree t s (decides_less (length c.outline) (16 * count t))))
+          (records_give (outline_of c.pairs (tree t))))))
+
+  -- rows 5 to 8 of the parsed table are those of the outline of the tree that the text spells
+  pub table_spelled : (t : Tree part) → Spells t c.text → parsed_table c ≡ table_of c (tree t)
+  table_spelled t s = ap (table_of c) (parsed_complete t c.text s)
 
 -- ---- a tree that is read
 ten_not_zero : (pairs : List ℕ) (room : ℕ) → (rows_for unread pairs room).number ≡ 0 → ⊥
@@ -158,6 +188,13 @@ module _ (c : Call) {r : Reply Figures} {outline : List ℕ} (x : Answered c r o
       decided _ _ _ numbers_of refl (judged_gives c) x.told_reply
       (λ h. rw (x.outline_written, ne_eqb (judged c).number 0 (λ z. omega arith)))
 
+  -- the same by the parsed table
+  pub demand_1_parsed : ParsedOrRefused c r outline
+  unfolding reply outline_after
+  demand_1_parsed =
+      decided _ _ _ numbers_of refl (parsed_gives c) x.told_reply
+      (λ h. rw (x.outline_written, ne_eqb (judged c).number 0 (λ z. omega arith)))
+
   -- 10 is given exactly if the text spells no tree
   pub ten_exactly : r.number ≡ 10 ↔ ((t : Tree part) → Spells t c.text → ⊥)
   ten_exactly = (λ e. ten demand_1.given e, λ none. given_ten none demand_1.given)
@@ -219,6 +256,10 @@ module _ (c : Call) {r : Reply Figures} {outline : List ℕ} (x : Answered c r o
       go unread e = absurd (ten_not_zero c.pairs (length c.outline) (judged_zero unread e))
       go (tree t) e = passed_given c x t e (judged_zero (tree t) e)
 
-  -- its records make the tree that the text spells
+  -- its records stand in the order of the text
+  pub read_order : r.number ≡ 0 → InTextOrder (take (16 * r.figures.records) outline)
+  read_order z = (tree_given z).in_order
+
+  -- they make the tree that the text spells
   pub read_tree : r.number ≡ 0 → (t : Tree part) → Spells t c.text → tree_of (take (16 * r.figures.records) outline) ≡ t
   read_tree z t s = let given = tree_given z in given.tree_is ∙ sym (given.only t s)

@@ -9,7 +9,7 @@ use native.Mathlib.Omega.{arith}
 use lib.Dec.{eqb}
 use lib.ListN.{length}
 use borrow.Author.Tests.{eq-eqb, ne_eqb}
-use Rattle.outline.specs.Outline.{size, next, branch, price, records, is_taxon}
+use Rattle.outline.specs.Outline.{size, next, branch, price, is_taxon}
 use Rattle.outline.specs.Rules.{most_records}
 use Rattle.outline.specs.WellFormed.{WellFormed}
 use Rattle.laws.specs.Candidate.{plus, nothing_worth, heading, none, some, better_of, join_of, one_at}
