@@ -13,17 +13,17 @@ use Rattle.choice.specs.Answer.{Call, most_count, too_short, judged, reply}
 use Rattle.outline.specs.Rules.{most_records}
 
 module _ (c : Call) where
-  pub judged_placed : Placed most_records (judged c)
+  pub judged_placed : Placed 12 most_records (judged c)
   unfolding judged
   judged_placed =
       let unknown = not (eqb c.way 0) && not (eqb c.way 1) in
       let large = ltb most_count c.count in
-      then_placed most_records (row 1 unknown) _ (row_placed most_records 1 unknown (omega arith))
-      (λ _. then_placed most_records (size_rows c.outline) _ (sizes_placed c.outline)
-      (λ sized. then_placed most_records (row 4 large) _ (row_placed most_records 4 large (omega arith))
-      (λ _. then_placed most_records (record_rows c.outline) _ (records_placed c.outline sized)
-      (λ _. then_placed most_records (row 9 (too_short c)) _ (row_placed most_records 9 (too_short c) (omega arith))
-      (λ _. row_placed most_records 12 (none_fits c.outline c.way c.count) (omega arith))))))
+      then_placed 12 most_records (row 1 unknown) _ (row_placed 12 most_records 1 unknown (omega arith))
+      (λ _. then_placed 12 most_records (size_rows c.outline) _ (sizes_placed 12 (omega arith) c.outline)
+      (λ sized. then_placed 12 most_records (row 4 large) _ (row_placed 12 most_records 4 large (omega arith))
+      (λ _. then_placed 12 most_records (record_rows c.outline) _ (records_placed 12 (omega arith) c.outline sized)
+      (λ _. then_placed 12 most_records (row 9 (too_short c)) _ (row_placed 12 most_records 9 (too_short c) (omega arith))
+      (λ _. row_placed 12 most_records 12 (none_fits c.outline c.way c.count) (omega arith))))))
 
   pub reply_place_most : (reply c).place ≤ most_records
   unfolding reply

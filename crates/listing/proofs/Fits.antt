@@ -36,7 +36,7 @@ use Rattle.listing.specs.Printed.{selection_text, answer_text, printed}
 use Rattle.outline.specs.Rules.{most_records}
 
 -- ---- a refusal
-refusal_most : (t : Ruling) → Placed most_records t → length (refusal_text t) ≤ 15
+refusal_most : (t : Ruling) → Placed 12 most_records t → length (refusal_text t) ≤ 15
 unfolding refusal_text labelled others
 refusal_most t p =
     simp length-append (omega (

@@ -6,7 +6,7 @@
 ghost use Rattle.std.specs.Prelude.{◌≡◌, ◌≤◌};
 ghost use Rattle.refusals.specs.Refusals.{ruling, told};
 ghost use Rattle.outline.specs.Answer.{checked, found_at};
-ghost use Rattle.reading.specs.Answer.{call as reading};
+ghost use Rattle.reading.specs.Answer.{call as reading, Numbers};
 ghost use Rattle.writing.specs.Answer.{call as writing};
 ghost use Rattle.choice.specs.Answer.{call};
 ghost use Rattle.quick.specs.Answer.{call as picking};
@@ -156,7 +156,8 @@ pub extern "C" fn plates_read(
     outline: &mut [u8],
     answer: &mut [u32; 3],
 ) -> u32
-    ensures { TextRead (reading text.now pairs.now outline.old) result answer.new outline.new }
+    ensures answered { TextRead (reading text.now pairs.now outline.old) result answer.new outline.new }
+    ensures numbers { Numbers pairs.now }
 {
     match read(text, pairs, outline) {
         Reading::Read { records } => {

@@ -52,19 +52,19 @@ module _ (o : List ℕ) (formed : WellFormed o) where
       omega (arith, total_most (ceiling_part o b s) (most_records * most_length) 1 (size o) (λ r l u. part_most b s r), formed.size_most)
 
 module _ (c : Call) where
-  judged_placed : Placed most_records (judged c)
+  judged_placed : Placed 15 most_records (judged c)
   unfolding judged
   judged_placed =
       let o = c.outline in
       let large = ltb most_count c.count in
       let many = ltb most_picks c.picks in
       let short = ltb (length c.marks) (size o) in
-      then_placed most_records (size_rows o) _ (sizes_placed o)
-      (λ sized. then_placed most_records (row 4 large) _ (row_placed most_records 4 large (omega arith))
-      (λ _. then_placed most_records (row 15 many) _ (row_placed most_records 15 many (omega arith))
-      (λ _. then_placed most_records (record_rows o) _ (records_placed o sized)
-      (λ _. then_placed most_records (row 9 short) _ (row_placed most_records 9 short (omega arith))
-      (λ _. row_placed most_records 12 (none_fits o 0 c.count) (omega arith))))))
+      then_placed 15 most_records (size_rows o) _ (sizes_placed 15 (omega arith) o)
+      (λ sized. then_placed 15 most_records (row 4 large) _ (row_placed 15 most_records 4 large (omega arith))
+      (λ _. then_placed 15 most_records (row 15 many) _ (row_placed 15 most_records 15 many (omega arith))
+      (λ _. then_placed 15 most_records (record_rows o) _ (records_placed 15 (omega arith) o sized)
+      (λ _. then_placed 15 most_records (row 9 short) _ (row_placed 15 most_records 9 short (omega arith))
+      (λ _. row_placed 15 most_records 12 (none_fits o 0 c.count) (omega arith))))))
 
   pub reply_place_most : (reply c).place ≤ most_records
   unfolding reply

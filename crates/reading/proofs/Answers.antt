@@ -21,7 +21,7 @@ use Rattle.newick.specs.Layout.{count, layout}
 use Rattle.newick.specs.Pairs.{price_in, bad_pairs}
 use Rattle.newick.specs.Parsing.{Parsed, unread, tree, grown, parsed}
 use Rattle.reading.specs.Scan.{is_tree}
-use Rattle.reading.specs.Answer.{call, Figures, told, rows_for, judged, reply, outline_after, Numbers, Answered}
+use Rattle.reading.specs.Answer.{call, Figures, told, rows_for, judged, reply, outline_after, Answered}
 use Rattle.newick.specs.Inner.{plates_of}
 use Rattle.reading.specs.Inner.{TreeRead, tree_bad, tree_many, tree_read, place_rows, TreePlaced}
 use Rattle.reading.specs.declared.answer.Answer.{Answer}
@@ -102,14 +102,14 @@ begins pairs draft after n t c d =
     ap (take (16 * n)) d ∙ take_at o (drop (length o) draft) (16 * n) (omega (arith, layout_length (price_in pairs) t))
 
 -- ---- every way out
-module _ (text pairs outline : List ℕ) (numbers : Numbers pairs) where
+module _ (text pairs outline : List ℕ) where
   -- a refusal leaves the outline as it was
   refuses : (e : Refusal) → rows_for (parsed text) pairs (length outline) ≡ refusal e
       → Answered (call text pairs outline) (told (Answer.Refused e)) outline
   unfolding judged reply outline_after
   refuses e h =
       let f : eqb (rows_for (parsed text) pairs (length outline)).number 0 ≡ false = ap (λ (t : Ruling). eqb t.number 0) h ∙ refusal_not_zero e in
-      record { told_reply = rw (f, h); outline_written = rw f; pairs_numbers = numbers }
+      record { told_reply = rw (f, h); outline_written = rw f }
 
   unread_answered : parsed text ≡ unread → Answered (call text pairs outline) (told (Answer.Refused Refusal.BadText)) outline
   unfolding rows_for
@@ -149,5 +149,4 @@ module _ (text pairs outline : List ℕ) (numbers : Numbers pairs) where
         record {
           told_reply = rw (p, rows_placed text t pairs (length outline) p (omega arith), ← layout_size (price_in pairs) t) w'.told_placed;
           outline_written = rw (p, rows_placed text t pairs (length outline) p (omega arith)) w'.outline_placed;
-          pairs_numbers = numbers;
         }

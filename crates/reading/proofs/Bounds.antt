@@ -36,18 +36,18 @@ layout_sized price t few =
       le-ltb most_records (count t) few,
     )
 
-rows_placed : (p : Parsed) (pairs : List ℕ) (room : ℕ) → Placed most_records (rows_for p pairs room)
+rows_placed : (p : Parsed) (pairs : List ℕ) (room : ℕ) → Placed 11 most_records (rows_for p pairs room)
 unfolding rows_for
-rows_placed unread pairs room = row_placed most_records 10 true (omega arith)
+rows_placed unread pairs room = row_placed 11 most_records 10 true (omega arith)
 rows_placed (tree t) pairs room =
     let many = ltb most_records (count t) in
     let bad = bad_pairs (plates t) pairs in
     let short = ltb room (16 * count t) in
-    then_placed most_records (row 3 many) _ (row_placed most_records 3 many (omega arith))
-    (λ z. then_placed most_records (row 11 bad) _ (row_placed most_records 11 bad (omega arith))
-    (λ _. then_placed most_records (row 9 short) _ (row_placed most_records 9 short (omega arith))
+    then_placed 11 most_records (row 3 many) _ (row_placed 11 most_records 3 many (omega arith))
+    (λ z. then_placed 11 most_records (row 11 bad) _ (row_placed 11 most_records 11 bad (omega arith))
+    (λ _. then_placed 11 most_records (row 9 short) _ (row_placed 11 most_records 9 short (omega arith))
     (λ _.
-    records_placed (layout (price_in pairs) t)
+    records_placed 11 (omega arith) (layout (price_in pairs) t)
     (ap (λ (u : Ruling). u.number) (layout_sized (price_in pairs) t (ltb-false most_records (count t) (row_fails 2 many z)))))))
 
 -- where no row holds, N is that of a tree of few records

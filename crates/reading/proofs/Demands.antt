@@ -27,8 +27,8 @@ use Rattle.newick.specs.Layout.{count, plates, layout}
 use Rattle.newick.specs.Pairs.{price_in, bad_pairs}
 use Rattle.newick.specs.Trees.{tree_of}
 use Rattle.newick.specs.Parsing.{Parsed, unread, tree, parsed}
-use Rattle.reading.specs.Answer.{Call, Figures, numbers_of, told, rows_for, judged, reply, outline_after, outline_of, Answered}
-use Rattle.reading.specs.Demands.{In, Pair, OfTree, lowest_of_tree, read_table, table_of, parsed_table, ReadOrRefused, ParsedOrRefused, TreeGiven}
+use Rattle.reading.specs.Answer.{Call, Figures, numbers_of, told, rows_for, judged, reply, outline_after, outline_of, Answered, Numbers}
+use Rattle.reading.specs.Demands.{In, Pair, OfTree, lowest_of_tree, read_table, table_of, parsed_table, ReadOrRefused, ParsedOrRefused, TreeGiven, OwnPrices}
 use Rattle.reading.specs.declared.answer.Answer.{Answer}
 use Rattle.reading.proofs.Answers.{layout_length, layout_size}
 use Rattle.reading.proofs.Bounds.{layout_sized}
@@ -170,14 +170,21 @@ passed_given c {r} {outline} x t e z =
       accepted = rw begins accepted;
       one_pair = pairs_once (plates t) c.pairs pass.1;
       its_price = its_price;
-      own_price = rw begins (λ q i f.
-          let (among, is) = settled.priced q i f in
-          let small = price_small c.pairs x.pairs_numbers (plate o q) in
-          let same : price_in c.pairs (plate o q) ≡ price o q = omega arith in
-          subst (λ p. Pair (plate o q) p c.pairs) same (its_price (plate o q) among));
       in_order = rw begins settled.order;
       tree_is = rw begins settled.tree_is;
     }
+
+-- a pair's price, which is a number of 32 bits, is the taxon's whole
+given_priced : (c : Call) {r : Reply Figures} {outline : List ℕ} → TreeGiven c r outline → Numbers c.pairs → OwnPrices c r outline
+given_priced c given numbers =
+    let o = layout (price_in c.pairs) given.tree in
+    let accepted : checked o ≡ passed = rw given.begins at given.accepted in
+    let settled = layout_settled (price_in c.pairs) given.tree (spells_in_range given.spelled) accepted in
+    rw given.begins (λ q i f.
+    let (among, is) = settled.priced q i f in
+    let small = price_small c.pairs numbers (plate o q) in
+    let same : price_in c.pairs (plate o q) ≡ price o q = omega arith in
+    subst (λ p. Pair (plate o q) p c.pairs) same (given.its_price (plate o q) among))
 
 -- ---- the promises
 module _ (c : Call) {r : Reply Figures} {outline : List ℕ} (x : Answered c r outline) where
@@ -255,6 +262,10 @@ module _ (c : Call) {r : Reply Figures} {outline : List ℕ} (x : Answered c r o
       go : (p : Parsed) → parsed c.text ≡ p → TreeGiven c r outline
       go unread e = absurd (ten_not_zero c.pairs (length c.outline) (judged_zero unread e))
       go (tree t) e = passed_given c x t e (judged_zero (tree t) e)
+
+  -- each taxon has its own pair's price
+  pub own_priced : Numbers c.pairs → r.number ≡ 0 → OwnPrices c r outline
+  own_priced numbers z = given_priced c (tree_given z) numbers
 
   -- its records stand in the order of the text
   pub read_order : r.number ≡ 0 → InTextOrder (take (16 * r.figures.records) outline)

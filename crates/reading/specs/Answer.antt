@@ -69,13 +69,11 @@ reply c = replied no_figures (judged c) (figures c)
 unfoldable pub outline_after : Call → List ℕ
 outline_after c = after (judged c) (outline_of c.pairs (parsed c.text)) c.outline
 
--- a list of 32-bit numbers
-pub record Numbers (ns : List ℕ) : Type 0 where
-  pub small : (i : ℕ) → get_or ns i 0 < 4294967296
-
--- what a call ensures, of the numbers that it is told and of the outline as it leaves it; and that its pairs are 32-bit numbers, as
--- those of every `&[u32]` are
+-- what a call ensures, of the numbers that it is told and of the outline as it leaves it
 pub record Answered (c : Call) (r : Reply Figures) (outline : List ℕ) : Type 0 where
   pub told_reply : r ≡ reply c
   pub outline_written : outline ≡ outline_after c
-  pub pairs_numbers : Numbers c.pairs
+
+-- numbers of 32 bits, as those of every `&[u32]` are
+pub record Numbers (ns : List ℕ) : Type 0 where
+  pub small : (i : ℕ) → get_or ns i 0 < 4294967296

@@ -74,6 +74,7 @@ parsed_table c = table_of c (parsed c.text)
 abbrev pub ReadOrRefused : Call → Reply Figures → List ℕ → Type 1
 ReadOrRefused c r outline = Decided (read_table c) (ruling_of r) (numbers_of r.figures) (c.outline ∷ []) (outline ∷ [])
 
+-- the same by the parsed table
 abbrev pub ParsedOrRefused : Call → Reply Figures → List ℕ → Type 1
 ParsedOrRefused c r outline = Decided (parsed_table c) (ruling_of r) (numbers_of r.figures) (c.outline ∷ []) (outline ∷ [])
 
@@ -89,7 +90,10 @@ pub record TreeGiven (c : Call) (r : Reply Figures) (outline : List ℕ) : Type 
   pub accepted : checked (take (16 * r.figures.records) outline) ≡ passed
   pub one_pair : (p : ℕ) → In p (plates tree) → pairs_of c.pairs p ≡ 1
   pub its_price : (p : ℕ) → In p (plates tree) → Pair p (price_in c.pairs p) c.pairs
-  pub own_price : (q : ℕ) → IsRecord (take (16 * r.figures.records) outline) q → is_taxon (take (16 * r.figures.records) outline) q ≡ true
-      → Pair (plate (take (16 * r.figures.records) outline) q) (price (take (16 * r.figures.records) outline) q) c.pairs
   pub in_order : InTextOrder (take (16 * r.figures.records) outline)
   pub tree_is : tree_of (take (16 * r.figures.records) outline) ≡ tree
+
+-- each taxon that was read has the price of a pair, that of its plate
+abbrev pub OwnPrices : Call → Reply Figures → List ℕ → Type 0
+OwnPrices c r outline =
+    let o = take (16 * r.figures.records) outline in (q : ℕ) → IsRecord o q → is_taxon o q ≡ true → Pair (plate o q) (price o q) c.pairs

@@ -1,7 +1,7 @@
 // Reading a text: the tree, and the outline that is made of it.
 ghost use Rattle.std.specs.Prelude.{◌≡◌, ◌≤◌, length};
 ghost use Rattle.newick.specs.Grammar.{most_bytes};
-ghost use Rattle.reading.specs.Answer.{call, told, Answered};
+ghost use Rattle.reading.specs.Answer.{call, told, Answered, Numbers};
 ghost use Rattle.reading.specs.Inner.{draft_size, TreeRead, Whole, TreePlaced};
 
 use super::answer::Answer;
@@ -94,7 +94,8 @@ fn read_short(text: &[u8], pairs: &[u32], outline: &mut [u8]) -> Answer
 
 // Reads a text with its prices to an outline.
 pub fn read(text: &[u8], pairs: &[u32], outline: &mut [u8]) -> Answer
-    ensures { Answered (call text.now pairs.now outline.old) (told result) outline.new }
+    ensures answered { Answered (call text.now pairs.now outline.old) (told result) outline.new }
+    ensures numbers { Numbers pairs.now }
 {
     if MOST_BYTES < text.len() {
         return Answer::Refused(Refusal::BadText);

@@ -16,18 +16,18 @@ use Rattle.sheet.specs.Answer.{Call, bad_mark, sheet_taken, judged, reply}
 use Rattle.outline.specs.Rules.{most_records}
 
 module _ (c : Call) where
-  judged_placed : Placed most_records (judged c)
+  judged_placed : Placed 14 most_records (judged c)
   unfolding judged
   judged_placed =
       let o = c.outline in
       let unknown = not (eqb c.way 0) && not (eqb c.way 1) in
       let few = ltb (length c.marks) (size o) in
-      then_placed most_records (row 1 unknown) _ (row_placed most_records 1 unknown (omega arith))
-      (λ _. then_placed most_records (checked o) _ (checked_placed o)
-      (λ z. then_placed most_records (row 14 few) _ (row_placed most_records 14 few (omega arith))
-      (λ _. then_placed most_records (row_at 14 (bad_mark o c.marks) (size o)) _
-      (row_at_placed most_records 14 (bad_mark o c.marks) (size o) (omega arith) (accepted_formed o (eq-eqb _ _ z)).size_most)
-      (λ _. row_placed most_records 9 (ltb (length c.sheet) (sheet_taken c)) (omega arith)))))
+      then_placed 14 most_records (row 1 unknown) _ (row_placed 14 most_records 1 unknown (omega arith))
+      (λ _. then_placed 14 most_records (checked o) _ (checked_placed 14 (omega arith) o)
+      (λ z. then_placed 14 most_records (row 14 few) _ (row_placed 14 most_records 14 few (omega arith))
+      (λ _. then_placed 14 most_records (row_at 14 (bad_mark o c.marks) (size o)) _
+      (row_at_placed 14 most_records 14 (bad_mark o c.marks) (size o) (omega arith) (accepted_formed o (eq-eqb _ _ z)).size_most)
+      (λ _. row_placed 14 most_records 9 (ltb (length c.sheet) (sheet_taken c)) (omega arith)))))
 
   pub reply_place_most : (reply c).place ≤ most_records
   unfolding reply

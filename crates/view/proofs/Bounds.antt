@@ -16,6 +16,6 @@ module _ (c : Call) (shown : List ℕ → List ℕ) where
   unfolding judged
   place_most x =
       let short = ltb (length c.view) (view_taken c) in
-      let placed : Placed most_records (judged c) =
-      then_placed most_records (checked c.outline) _ (checked_placed c.outline) (λ _. row_placed most_records 9 short (omega arith)) in
+      let placed : Placed 9 most_records (judged c) =
+      then_placed 9 most_records (checked c.outline) _ (checked_placed 9 (omega arith) c.outline) (λ _. row_placed 9 most_records 9 short (omega arith)) in
       rw x.told_judged placed.place_most

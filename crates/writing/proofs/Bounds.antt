@@ -17,14 +17,14 @@ use Rattle.writing.proofs.Demands.{judged_plain}
 use Rattle.outline.specs.Rules.{most_records, most_taxa}
 
 module _ (c : Call) where
-  judged_placed : Placed most_records (judged c)
+  judged_placed : Placed 13 most_records (judged c)
   unfolding judged
   judged_placed =
       let o = c.outline in
-      then_placed most_records (checked o) _ (checked_placed o)
-      (λ z. then_placed most_records (row_at 13 (unwritable o) (size o)) (row 9 (too_short c))
-      (row_at_placed most_records 13 (unwritable o) (size o) (omega arith) (accepted_formed o (eq-eqb _ _ z)).size_most)
-      (λ _. row_placed most_records 9 (too_short c) (omega arith)))
+      then_placed 13 most_records (checked o) _ (checked_placed 13 (omega arith) o)
+      (λ z. then_placed 13 most_records (row_at 13 (unwritable o) (size o)) (row 9 (too_short c))
+      (row_at_placed 13 most_records 13 (unwritable o) (size o) (omega arith) (accepted_formed o (eq-eqb _ _ z)).size_most)
+      (λ _. row_placed 13 most_records 9 (too_short c) (omega arith)))
 
   -- the place is a record's, there are at most 10 bytes for each record and 8 more for each taxon, and at most a pair for each taxon
   pub reply_few : ((reply c).place ≤ most_records) × ((reply c).figures.bytes ≤ most_written) × ((reply c).figures.pairs ≤ most_taxa)

@@ -3,5 +3,11 @@ use Rattle.std.proofs.Common.{arith}
 use Rattle.reading.proofs.Answers.{long_answered}
 use Rattle.reading.proofs.reader.read.Goals as goal
 
-pub returns-then-text-gt-MOST_BYTES : goal.returns-then-text-gt-MOST_BYTES
-returns-then-text-gt-MOST_BYTES c = long_answered _ _ _ (record { small = λ i. omega (arith, c.type_inv.pairs i) }) (omega arith)
+pub returns-then-text-gt-MOST_BYTES-clause-answered : goal.returns-then-text-gt-MOST_BYTES-clause-answered
+returns-then-text-gt-MOST_BYTES-clause-answered c = long_answered _ _ _ (omega arith)
+
+pub returns-then-text-gt-MOST_BYTES-clause-numbers : goal.returns-then-text-gt-MOST_BYTES-clause-numbers
+returns-then-text-gt-MOST_BYTES-clause-numbers c = record { small = λ i. omega (arith, c.type_inv.pairs i) }
+
+pub returns-clause-numbers : goal.returns-clause-numbers
+returns-clause-numbers c = record { small = λ i. omega (arith, c.type_inv.pairs i) }

@@ -1,21 +1,15 @@
 -- `reading::reader::read_short` meets its contract: no tree, too many records, or a tree that is drafted and placed.
-use Rattle.std.proofs.Common.{arith, ℕ, List, get_or, Fits, w32}
-use Rattle.reading.specs.Answer.{Numbers}
 use Rattle.reading.proofs.Answers.{bad_answered, many_answered, none_answered, placed_answered}
 use Rattle.reading.proofs.reader.read_short.Goals as goal
 
--- the pairs are 32-bit numbers
-numbers : {ns : List ℕ} → ((i : ℕ) → Fits w32 (get_or ns i 0)) → Numbers ns
-numbers h = record { small = λ i. omega (arith, h i) }
-
 pub returns-then-is_tree : goal.returns-then-is_tree
-returns-then-is_tree c = many_answered _ _ _ (numbers c.type_inv.pairs) c.requires c.in-Many.ensures c.if-is_tree.ensures
+returns-then-is_tree c = many_answered _ _ _ c.requires c.in-Many.ensures c.if-is_tree.ensures
 
 pub returns-in-Bad : goal.returns-in-Bad
-returns-in-Bad c = bad_answered _ _ _ (numbers c.type_inv.pairs) c.requires c.in-Bad.ensures
+returns-in-Bad c = bad_answered _ _ _ c.requires c.in-Bad.ensures
 
 pub returns-else-is_tree : goal.returns-else-is_tree
-returns-else-is_tree c = none_answered _ _ _ (numbers c.type_inv.pairs) c.requires c.if-is_tree.ensures
+returns-else-is_tree c = none_answered _ _ _ c.requires c.if-is_tree.ensures
 
 pub returns-in-Read : goal.returns-in-Read
-returns-in-Read c = placed_answered _ _ _ (numbers c.type_inv.pairs) c.requires c.in-Read.ensures c.place.ensures
+returns-in-Read c = placed_answered _ _ _ c.requires c.in-Read.ensures c.place.ensures
