@@ -3,11 +3,11 @@
 
 usage: python3 tools/respell.py [FOLDER]      the top of a checkout, with nothing uncommitted; the default is this folder
 
-A name is the repository's own if a file of specs/ or proofs/ has it, outside the folders of single functions: what stands there are goals,
-whose names Rattle makes. `addedCost` becomes `added_cost`, `told-reply` becomes `told_reply`; types, modules and the functions of src/ keep
-their names, and so does a name in a file that imports it from a library of the kit. Two names that would fall together are told
-apart: the lemma beside a function gets `_lem`, a field the word that APART has for it. In prose only what stands between backquotes, in a block
-of code, or cannot be an English word is turned. Running it again changes nothing.
+A name is the repository's own if a file of specs/ or proofs/ has it, outside the folders of single functions: what stands there
+are goals, whose names Rattle makes. `addedCost` becomes `added_cost`, `told-reply` becomes `told_reply`; types, modules and the
+functions of src/ keep their names, and so does a name in a file that imports it from a library of the kit. Two names that would
+fall together are told apart: the lemma beside a function gets `_lem`, a field the word that APART has for it. In prose only what
+stands between backquotes, in a block of code, or cannot be an English word is turned. Running it again changes nothing.
 """
 import collections
 import os

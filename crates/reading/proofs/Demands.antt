@@ -3,7 +3,7 @@ use Prim.Native.Nat.{ℕ, suc, ◌*◌, ◌≤◌}
 use mathlib.Core.Path.{◌≡◌, refl, sym, ap, subst, ◌∙◌}
 use mathlib.Core.Logic.{◌↔◌}
 use mathlib.Core.Bool.{Bool, true, false, false≢true}
-use mathlib.Core.List.{List, [], ◌∷◌}
+use mathlib.Core.List.{List, [], ◌∷◌, ◌++◌}
 use native.Mathlib.Omega.{arith}
 use lib.Dec.{ltb}
 use lib.ListN.{length, take, drop}
@@ -11,8 +11,8 @@ use borrow.Author.Tests.{ne_eqb, ltb-true, ltb-false}
 use Rattle.lists.specs.Lists.{over}
 use Rattle.lists.proofs.Buffers.{over_taken, over_past}
 use Rattle.refusals.specs.Refusals.{Ruling, passed, row, row_at}
-use Rattle.refusals.specs.Reply.{Reply}
-use Rattle.refusals.specs.Table.{LowestAt, lowest_at, FirstRow, here, later, end, fails, Gives, gives_none, gives_first}
+use Rattle.refusals.specs.Reply.{Reply, ruling_of}
+use Rattle.refusals.specs.Table.{LowestAt, Row, Decided, lowest_at, FirstRow, here, later, end, fails, Gives, gives_none, gives_first}
 use Rattle.refusals.proofs.Refusals.{both_pass, row_fails}
 use Rattle.refusals.proofs.Replies.{told_passed, decided, granted_apart, refused_determined}
 use Rattle.refusals.proofs.Tests.{Decides, decides_less}
@@ -27,8 +27,8 @@ use Rattle.newick.specs.Layout.{count, plates, layout}
 use Rattle.newick.specs.Pairs.{price_in, bad_pairs}
 use Rattle.newick.specs.Trees.{tree_of}
 use Rattle.newick.specs.Parsing.{Parsed, unread, tree, parsed}
-use Rattle.reading.specs.Answer.{Call, Figures, numbers_of, told, rows_for, judged, reply, outline_after, outline_of, Answered, Numbers}
-use Rattle.reading.specs.Demands.{In, Pair, OfTree, lowest_of_tree, read_table, table_of, parsed_table, ReadOrRefused, ParsedOrRefused, TreeGiven, OwnPrices}
+use Rattle.reading.specs.Answer.{Call, Figures, numbers_of, told, rows_for, judged, reply, outline_after, Answered, Numbers}
+use Rattle.reading.specs.Demands.{In, Pair, OfTree, lowest_of_tree, text_table, read_table, table_of, parsed_table, ReadOrRefused, ParsedOrRefused, TreeGiven, OwnPrices}
 use Rattle.reading.specs.declared.answer.Answer.{Answer}
 use Rattle.reading.proofs.Answers.{layout_length, layout_size}
 use Rattle.reading.proofs.Bounds.{layout_sized}
@@ -73,17 +73,19 @@ module _ (c : Call) where
           own (later _ k) = elim k [ ]
       go (gives_first l (later _ h) only) = elim h [ ]
 
-  judged_gives : Gives (read_table c) (judged c)
-  unfolding judged rows_for record_rows
-  judged_gives = go (parsed c.text) refl
+  -- rows 10, 3, 11 and 9, and behind them any that give what the records of the tree that is spelled are judged
+  text_gives : {rows : List Row} → ((t : Tree part) → Spells t c.text → Gives rows (record_rows (layout (price_in c.pairs) t)))
+      → Gives (text_table c ++ rows) (judged c)
+  unfolding judged rows_for
+  text_gives {rows} behind = go (parsed c.text) refl
     where
-      go : (p : Parsed) → parsed c.text ≡ p → Gives (read_table c) (rows_for p c.pairs (length c.outline))
+      go : (p : Parsed) → parsed c.text ≡ p → Gives (text_table c ++ rows) (rows_for p c.pairs (length c.outline))
       go unread e = gives_first (omega arith) (here (refl, none)) (λ m q h. only h)
         where
           none : (t : Tree part) → Spells t c.text → ⊥
           none = unread_none c.text e
 
-          only : {m q : ℕ} → FirstRow (read_table c) m q → (m ≡ 10) × (q ≡ 0)
+          only : {m q : ℕ} → FirstRow (text_table c ++ rows) m q → (m ≡ 10) × (q ≡ 0)
           only (here h) = (refl, h.0)
           only (later f k) = absurd (f 0 (refl, none))
       go (tree t) e =
@@ -91,36 +93,19 @@ module _ (c : Call) where
           gives_then (gives_whole 9 {b = false} (λ h. absurd (false≢true h), λ n. absurd (n t s)))
           (gives_then (gives_whole 2 (decides_tree t s (decides_less most_records (count t))))
           (gives_then (gives_whole 10 (decides_tree t s (decides_pairs (plates t) c.pairs)))
-          (gives_then (gives_whole 8 (decides_tree t s (decides_less (length c.outline) (16 * count t))))
-          (gives_then (lowest_of_tree_lem 4 bad_field t s)
-          (gives_then (lowest_of_tree_lem 5 bad_link t s)
-          (gives_then (gives_whole 6 (decides_tree t s (decides_less most_taxa (taxa (layout (price_in c.pairs) t)))))
-          (lowest_of_tree_lem 7 is_duplicate t s)))))))
+          (gives_then (gives_whole 8 (decides_tree t s (decides_less (length c.outline) (16 * count t)))) (behind t s))))
 
-  -- no tree is spelled, so that none is spelled of which a condition holds
-  decides_none : {condition : Tree part → Type 0} → ((t : Tree part) → Spells t c.text → ⊥) → Decides (OfTree c condition) false
-  decides_none none = (λ h. absurd (false≢true h), λ (t, s, k). absurd (none t s))
+  judged_gives : Gives (read_table c) (judged c)
+  unfolding record_rows
+  judged_gives =
+      text_gives (λ t s.
+      gives_then (lowest_of_tree_lem 4 bad_field t s)
+      (gives_then (lowest_of_tree_lem 5 bad_link t s)
+      (gives_then (gives_whole 6 (decides_tree t s (decides_less most_taxa (taxa (layout (price_in c.pairs) t)))))
+      (lowest_of_tree_lem 7 is_duplicate t s))))
 
   parsed_gives : Gives (parsed_table c) (judged c)
-  unfolding judged
-  parsed_gives = go (parsed c.text) refl
-    where
-      go : (p : Parsed) → parsed c.text ≡ p → Gives (table_of c p) (rows_for p c.pairs (length c.outline))
-      go unread e =
-          unfold rows_for in
-          let none = unread_none c.text e in
-          gives_then (gives_whole 9 {b = true} (λ _. none, λ _. refl))
-          (gives_then (gives_whole 2 (decides_none none))
-          (gives_then (gives_whole 10 (decides_none none))
-          (gives_then (gives_whole 8 (decides_none none)) (records_give (outline_of c.pairs unread)))))
-      go (tree t) e =
-          unfold rows_for in
-          let s = parsed_sound t c.text e in
-          gives_then (gives_whole 9 {b = false} (λ h. absurd (false≢true h), λ n. absurd (n t s)))
-          (gives_then (gives_whole 2 (decides_tree t s (decides_less most_records (count t))))
-          (gives_then (gives_whole 10 (decides_tree t s (decides_pairs (plates t) c.pairs)))
-          (gives_then (gives_whole 8 (decides_tree t s (decides_less (length c.outline) (16 * count t))))
-          (records_give (outline_of c.pairs (tree t))))))
+  parsed_gives = text_gives (λ t s. rw (parsed_complete t c.text s) (records_give (layout (price_in c.pairs) t)))
 
   -- rows 5 to 8 of the parsed table are those of the outline of the tree that the text spells
   pub table_spelled : (t : Tree part) → Spells t c.text → parsed_table c ≡ table_of c (tree t)
@@ -188,19 +173,20 @@ given_priced c given numbers =
 
 -- ---- the promises
 module _ (c : Call) {r : Reply Figures} {outline : List ℕ} (x : Answered c r outline) where
-  -- demand 1: a tree is read, or exactly one refusal of the table, under its condition only; a refusal changes no byte of the outline
-  pub demand_1 : ReadOrRefused c r outline
+  -- by any table that gives what the call is judged: a tree is read, or exactly one refusal, under its condition only; a refusal changes no
+  -- byte of the outline
+  decided_by : {rows : List Row} → Gives rows (judged c) → Decided rows (ruling_of r) (numbers_of r.figures) (c.outline ∷ []) (outline ∷ [])
   unfolding reply outline_after
-  demand_1 =
-      decided _ _ _ numbers_of refl (judged_gives c) x.told_reply
-      (λ h. rw (x.outline_written, ne_eqb (judged c).number 0 (λ z. omega arith)))
+  decided_by gives =
+      decided _ _ _ numbers_of refl gives x.told_reply (λ h. rw (x.outline_written, ne_eqb (judged c).number 0 (λ z. omega arith)))
+
+  -- demand 1, by the table in words
+  pub demand_1 : ReadOrRefused c r outline
+  demand_1 = decided_by (judged_gives c)
 
   -- the same by the parsed table
   pub demand_1_parsed : ParsedOrRefused c r outline
-  unfolding reply outline_after
-  demand_1_parsed =
-      decided _ _ _ numbers_of refl (parsed_gives c) x.told_reply
-      (λ h. rw (x.outline_written, ne_eqb (judged c).number 0 (λ z. omega arith)))
+  demand_1_parsed = decided_by (parsed_gives c)
 
   -- 10 is given exactly if the text spells no tree
   pub ten_exactly : r.number ≡ 10 ↔ ((t : Tree part) → Spells t c.text → ⊥)
