@@ -8,7 +8,8 @@ use native.Mathlib.Nat.{mul-add}
 use native.Mathlib.Omega.{arith}
 use lib.Dec.{eqb}
 use borrow.Author.Tests.{eq-eqb, ne_eqb, eqb-true, eqb-false, not-false}
-use Rattle.lists.specs.Lists.{from, anywhere, total, lowest}
+use Rattle.std.specs.Prelude.{if◌then◌else◌, Some, None, is_some}
+use Rattle.lists.specs.Lists.{from, anywhere, total, lowest, nonzero}
 use Rattle.lists.proofs.Bools.{both_false}
 
 -- what is left to pass at r
@@ -84,6 +85,13 @@ module _ (p : ℕ → Bool) (n : ℕ) where
   pub seeking_ends : {r : ℕ} → Seeking p n r → n < r → 0 ≡ lowest p (from 1 n)
   unfolding lowest
   seeking_ends {r} s h = let none : 0 ≡ lowest p (rest r n) = rw (rest_none r n h) in none ∙ s.whole
+
+  -- what the walk answers: the number found, or nothing
+  pub seeking_some : {r : ℕ} → Seeking p n r → r ≤ n → p r ≡ true → Some r ≡ nonzero (lowest p (from 1 n))
+  seeking_some {r} s h e = rw (← seeking_finds s h e, ne_eqb r 0 (λ z. omega (arith, s.low)))
+
+  pub seeking_nothing : {r : ℕ} → Seeking p n r → n < r → None ≡ nonzero (lowest p (from 1 n))
+  seeking_nothing {r} s h = rw (← seeking_ends s h)
 
 -- v is the lowest of the n numbers from k on at which the test holds, or 0 and it holds at none
 pub data Lowest (p : ℕ → Bool) (k n : ℕ) : ℕ → Type 0 where
@@ -163,6 +171,29 @@ anywhere_from p k (suc n) h = go (p k) refl (anywhere_from p (k + 1) n (omega ar
 
 pub anywhere_lowest : (p : ℕ → Bool) (n : ℕ) → not (eqb (lowest p (from 1 n)) 0) ≡ anywhere p (from 1 n)
 anywhere_lowest p n = anywhere_from p 1 n (omega arith)
+
+-- what is found is something where it is not 0
+pub is_some_nonzero : (n : ℕ) → is_some (nonzero n) ≡ not (eqb n 0)
+is_some_nonzero n = go (eqb n 0)
+  where
+    go : (b : Bool) → is_some (if b then None else Some n) ≡ not b
+    go true = refl
+    go false = refl
+
+-- what is found is the number, which is not 0; where nothing is, it is 0
+pub nonzero_some : (n : ℕ) {r : ℕ} → Some r ≡ nonzero n → (r ≡ n) × (1 ≤ n)
+nonzero_some n {r} e = go (eqb n 0) refl e
+  where
+    go : (b : Bool) → eqb n 0 ≡ b → Some r ≡ (if b then None else Some n) → (r ≡ n) × (1 ≤ n)
+    go true z h = absurd cc
+    go false z h = let p : r ≡ n = cc in let d = eqb-false n 0 z in (p, omega arith)
+
+pub nonzero_none : (n : ℕ) → None ≡ nonzero n → n ≡ 0
+nonzero_none n e = go (eqb n 0) refl e
+  where
+    go : (b : Bool) → eqb n 0 ≡ b → None ≡ (if b then None else Some n) → n ≡ 0
+    go true z h = eqb-true n 0 z
+    go false z h = absurd cc
 
 pub anywhere_none : (p : ℕ → Bool) (n : ℕ) → anywhere p (from 1 n) ≡ false → (r : ℕ) → 1 ≤ r → r ≤ n → p r ≡ false
 anywhere_none p n e = lowest_none p n (eqb-true _ _ (not-false _ (anywhere_lowest p n ∙ e)))

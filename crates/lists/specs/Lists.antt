@@ -1,5 +1,5 @@
 -- Tests, lists of numbers, and buffers that are written over: the few functions that the other definitions share.
-use Rattle.std.specs.Prelude.{if◌then◌else◌, ℕ, zero, suc, ◌+◌, ◌<◌, Bool, true, false, ◌||◌, List, [], ◌∷◌, ◌++◌, length, get_or, take, drop}
+use Rattle.std.specs.Prelude.{if◌then◌else◌, ℕ, zero, suc, ◌+◌, ◌<◌, Bool, true, false, ◌||◌, List, [], ◌∷◌, ◌++◌, Option, Some, None, length, get_or, take, drop, eqb}
 
 -- 1 where a test holds, else 0
 abbrev pub one : Bool → ℕ
@@ -29,6 +29,10 @@ total f (x ∷ xs) = f x + total f xs
 unfoldable pub lowest : (ℕ → Bool) → List ℕ → ℕ
 lowest p [] = 0
 lowest p (x ∷ xs) = let later = lowest p xs in if p x then x else later
+
+-- a number that counts from 1; 0 is none
+abbrev pub nonzero : ℕ → Option ℕ
+nonzero n = if eqb n 0 then None else Some n
 
 -- numbers written at the beginning of a buffer; the rest of the buffer is unchanged
 unfoldable pub over : List ℕ → List ℕ → List ℕ

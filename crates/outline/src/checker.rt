@@ -6,54 +6,50 @@ ghost use Rattle.outline.specs.Answer.{size_rows, record_rows, checked};
 ghost use Rattle.outline.specs.Rules.{most_records};
 
 use super::limits::{MOST_RECORDS, MOST_TAXA};
-use super::rules::{Rule, broken_at, count_links, taxa_of};
-use refusals::verdict::{Refusal, Verdict};
+use super::rules::{bad_field, bad_link, count_links, is_duplicate, taxa_of};
+use lists::lowest;
+use refusals::Refusal;
 
 // Rows 2 and 3: whether an outline is whole records, and not too many.
-pub fn check_size(outline: &[u8]) -> Verdict
+pub fn check_size(outline: &[u8]) -> Result<(), Refusal>
     ensures { told result ≡ size_rows outline.now }
 {
     let len = outline.len();
     if (len == 0) | (len % 16 != 0) {
-        return Verdict::Refused(Refusal::PartialRecord);
+        return Err(Refusal::PartialRecord);
     }
     if MOST_RECORDS < len / 16 {
-        return Verdict::Refused(Refusal::TooManyRecords);
+        return Err(Refusal::TooManyRecords);
     }
-    Verdict::Accepted
+    Ok(())
 }
 
 // Rows 5 to 8: whether the records keep every rule.
-pub fn check_records(outline: &[u8]) -> Verdict
+pub fn check_records(outline: &[u8]) -> Result<(), Refusal>
     requires { size outline.now ≤ most_records }
     ensures { told result ≡ record_rows outline.now }
 {
+    let n = outline.len() / 16;
     let counts = count_links(outline);
-    let field = broken_at(outline, &counts, Rule::Field);
-    if field != 0 {
-        return Verdict::Refused(Refusal::FieldOutOfRange(field));
+    if let Some(field) = lowest(n, |r| bad_field(outline, r)) {
+        return Err(Refusal::FieldOutOfRange(field));
     }
-    let link = broken_at(outline, &counts, Rule::Link);
-    if link != 0 {
-        return Verdict::Refused(Refusal::BadLink(link));
+    if let Some(link) = lowest(n, |r| bad_link(outline, &counts, r)) {
+        return Err(Refusal::BadLink(link));
     }
     if MOST_TAXA < taxa_of(outline) {
-        return Verdict::Refused(Refusal::TooManyTaxa);
+        return Err(Refusal::TooManyTaxa);
     }
-    let duplicate = broken_at(outline, &counts, Rule::Duplicate);
-    if duplicate != 0 {
-        return Verdict::Refused(Refusal::DuplicatePlate(duplicate));
+    if let Some(duplicate) = lowest(n, |r| is_duplicate(outline, r)) {
+        return Err(Refusal::DuplicatePlate(duplicate));
     }
-    Verdict::Accepted
+    Ok(())
 }
 
 // Whether an outline is accepted, or the first row of the table that refuses it.
-pub fn check(outline: &[u8]) -> Verdict
+pub fn check(outline: &[u8]) -> Result<(), Refusal>
     ensures { told result ≡ checked outline.now }
 {
-    let size = check_size(outline);
-    match size {
-        Verdict::Accepted => check_records(outline),
-        Verdict::Refused(_) => size,
-    }
+    check_size(outline)?;
+    check_records(outline)
 }

@@ -1,4 +1,5 @@
-// The fields of an outline's records.
+// The fields of an outline's records. An outline and a record's number are passed side by side: a struct that holds a reference has a
+// value at the call and one at the return, and each clause would say `record.entry.outline.now record.entry.number` for `o.now r`.
 ghost use Rattle.std.specs.Prelude.{◌≡◌, ◌+◌, ◌<◌, length};
 ghost use Rattle.outline.specs.Outline.{short, long, next, first, branch, price, plate_field, plate, is_taxon, locked, IsRecord};
 
@@ -10,7 +11,7 @@ pub fn short_at(o: &[u8], at: usize) -> u16
     requires { at + 1 < length o.now }
     ensures { result ≡ short o.now at }
 {
-    o[at] as u16 + 256 * (o[at + 1] as u16)
+    u16::from_le_bytes([o[at], o[at + 1]])
 }
 
 // The number of four bytes at a place.
@@ -18,7 +19,7 @@ fn long_at(o: &[u8], at: usize) -> u32
     requires { at + 3 < length o.now }
     ensures { result ≡ long o.now at }
 {
-    short_at(o, at) as u32 + 65536 * (short_at(o, at + 2) as u32)
+    u32::from_le_bytes([o[at], o[at + 1], o[at + 2], o[at + 3]])
 }
 
 // The record of the next member under the same heading, 0 if there is none.

@@ -1,23 +1,16 @@
 // The conditions of refusals 5 to 8, record by record.
 ghost use Rattle.std.specs.Prelude.{◌≡◌, ◌≤◌, ◌<◌, get_or};
-ghost use Rattle.lists.specs.Lists.{from, lowest};
-ghost use Rattle.outline.specs.Inner.{breaks, counted, Tally};
+ghost use Rattle.lists.specs.Lists.{from, lowest as lowest_of, nonzero};
+ghost use Rattle.outline.specs.Inner.{counted, Tally};
 ghost use Rattle.outline.specs.Outline.{size, IsRecord};
 ghost use Rattle.outline.specs.Rules.{bad_field, stray, bad_link, taxa, has_plate, is_duplicate, most_records};
 
 use super::fields::{branch_of, first_of, is_taxon, next_of, plate_field_of, plate_of, price_of};
 use super::limits::{MOST_LENGTH, MOST_PRICE, NUMBERS};
-
-// The rules that each record has to keep.
-#[derive(Clone, Copy)]
-pub enum Rule {
-    Field,
-    Link,
-    Duplicate,
-}
+use lists::{count, lowest};
 
 // Whether the length, the price or the plate is outside its range.
-fn bad_field(o: &[u8], r: usize) -> bool
+pub fn bad_field(o: &[u8], r: usize) -> bool
     requires { IsRecord o.now r }
     ensures { result ≡ bad_field o.now r }
 {
@@ -52,19 +45,16 @@ pub fn count_links(o: &[u8]) -> [u16; NUMBERS]
     requires { size o.now ≤ most_records }
     ensures { Tally o.now result }
 {
-    let n = o.len() / 16;
     let mut counts = [0; NUMBERS];
-    let mut r = 1;
-    while r <= n {
+    for r in 1..=o.len() / 16 {
         count_link(&mut counts, next_of(o, r));
         count_link(&mut counts, first_of(o, r));
-        r += 1;
     }
     counts
 }
 
 // Whether a link of record r is stray, or it is record 1 and has a next, or it is another and is not named exactly once.
-fn bad_link(o: &[u8], counts: &[u16; NUMBERS], r: usize) -> bool
+pub fn bad_link(o: &[u8], counts: &[u16; NUMBERS], r: usize) -> bool
     requires is_record { IsRecord o.now r }
     requires tally { Tally o.now counts.now }
     ensures { result ≡ bad_link o.now r }
@@ -82,14 +72,7 @@ fn bad_link(o: &[u8], counts: &[u16; NUMBERS], r: usize) -> bool
 pub fn taxa_of(o: &[u8]) -> usize
     ensures { result ≡ taxa o.now }
 {
-    let n = o.len() / 16;
-    let mut sum = 0;
-    let mut r = 1;
-    while r <= n {
-        sum += is_taxon(o, r) as usize;
-        r += 1;
-    }
-    sum
+    count(o.len() / 16, |r| is_taxon(o, r))
 }
 
 // Whether record r is the taxon of a plate.
@@ -97,60 +80,21 @@ fn has_plate(o: &[u8], plate: u32, r: usize) -> bool
     requires { IsRecord o.now r }
     ensures { result ≡ has_plate o.now plate r }
 {
-    if plate_of(o, r) != plate {
-        return false;
-    }
-    is_taxon(o, r)
+    (plate_of(o, r) == plate) && is_taxon(o, r)
 }
 
-// The lowest of the first n records that is the taxon of a plate, 0 if none is.
-pub fn holder_of(o: &[u8], plate: u32, n: usize) -> usize
+// The lowest of the first n records that is the taxon of a plate, if one is.
+pub fn holder_of(o: &[u8], plate: u32, n: usize) -> Option<usize>
     requires { n ≤ size o.now }
-    ensures { result ≡ lowest (has_plate o.now plate) (from 1 n) }
+    ensures { result ≡ nonzero (lowest_of (has_plate o.now plate) (from 1 n)) }
 {
-    let mut r = 1;
-    while r <= n {
-        if has_plate(o, plate, r) {
-            return r;
-        }
-        r += 1;
-    }
-    0
+    lowest(n, |r| has_plate(o, plate, r))
 }
 
 // Whether the plate of record r is already at an earlier taxon.
-fn is_duplicate(o: &[u8], r: usize) -> bool
+pub fn is_duplicate(o: &[u8], r: usize) -> bool
     requires { IsRecord o.now r }
     ensures { result ≡ is_duplicate o.now r }
 {
-    holder_of(o, plate_of(o, r), r - 1) != 0
-}
-
-// Whether record r breaks a rule.
-fn is_broken(o: &[u8], counts: &[u16; NUMBERS], rule: Rule, r: usize) -> bool
-    requires is_record { IsRecord o.now r }
-    requires tally { Tally o.now counts.now }
-    ensures { result ≡ breaks o.now rule r }
-{
-    match rule {
-        Rule::Field => bad_field(o, r),
-        Rule::Link => bad_link(o, counts, r),
-        Rule::Duplicate => is_duplicate(o, r),
-    }
-}
-
-// The lowest record that breaks a rule, 0 if none does.
-pub fn broken_at(o: &[u8], counts: &[u16; NUMBERS], rule: Rule) -> usize
-    requires { Tally o.now counts.now }
-    ensures { result ≡ lowest (breaks o.now rule) (from 1 (size o.now)) }
-{
-    let n = o.len() / 16;
-    let mut r = 1;
-    while r <= n {
-        if is_broken(o, counts, rule, r) {
-            return r;
-        }
-        r += 1;
-    }
-    0
+    holder_of(o, plate_of(o, r), r - 1).is_some()
 }

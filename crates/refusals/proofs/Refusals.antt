@@ -1,16 +1,15 @@
 -- The numbers of refusals, and rows of a table of which none is given.
-use Rattle.std.specs.Prelude.{if◌then◌else◌}
+use Rattle.std.specs.Prelude.{if◌then◌else◌, Option, Some, None, Result, Ok, Err}
 use Prim.Native.Nat.{ℕ, suc, ◌≤◌}
 use mathlib.Core.Path.{◌≡◌, refl, sym, ap, ◌∙◌}
 use mathlib.Core.Bool.{Bool, true, false}
 use native.Mathlib.Omega.{arith}
 use lib.Dec.{eqb}
 use borrow.Author.Tests.{eq-eqb, ne_eqb, eqb-true, eqb-false}
-use Rattle.lists.specs.Lists.{from, lowest}
+use Rattle.lists.specs.Lists.{from, lowest, nonzero}
 use Rattle.lists.proofs.Walk.{none_lowest}
 use Rattle.refusals.specs.Refusals.{Ruling, ruling, passed, refusal, told, ◌▸◌, row, row_at}
-use Rattle.refusals.specs.declared.verdict.Refusal.{Refusal}
-use Rattle.refusals.specs.declared.verdict.Verdict.{Verdict}
+use Rattle.refusals.specs.declared.refusal.Refusal.{Refusal}
 
 -- every refusal has a number of the table
 pub refusal_numbered : (e : Refusal) → 1 ≤ (refusal e).number
@@ -73,16 +72,16 @@ refusal_at_lem Refusal.TooManyPicks = refl
 pub refusal_determined : (d e : Refusal) → refusal d ≡ refusal e → d ≡ e
 refusal_determined d e h = sym (refusal_at_lem d) ∙ ap refusal_at h ∙ refusal_at_lem e
 
--- and the verdict
-pub verdict_determined : (u v : Verdict) → told u ≡ told v → u ≡ v
-verdict_determined Verdict.Accepted Verdict.Accepted h = refl
-verdict_determined Verdict.Accepted (Verdict.Refused e) h =
+-- and what a judge answers
+pub told_determined : (u v : Result Unit Refusal) → told u ≡ told v → u ≡ v
+told_determined (Ok _) (Ok _) h = refl
+told_determined (Ok _) (Err e) h =
     let z : 0 ≡ (refusal e).number = ap (λ (t : Ruling). t.number) h in
     absurd (omega (arith, refusal_numbered e))
-verdict_determined (Verdict.Refused d) Verdict.Accepted h =
+told_determined (Err d) (Ok _) h =
     let z : (refusal d).number ≡ 0 = ap (λ (t : Ruling). t.number) h in
     absurd (omega (arith, refusal_numbered d))
-verdict_determined (Verdict.Refused d) (Verdict.Refused e) h = ap Verdict.Refused (refusal_determined d e h)
+told_determined (Err d) (Err e) h = ap Err (refusal_determined d e h)
 
 -- where rows pass, each of them passes
 pub both_pass : (a b : Ruling) → (a ▸ b).number ≡ 0 → (a.number ≡ 0) × (b.number ≡ 0)
@@ -104,6 +103,24 @@ row_at_fails n holds size z = go (eqb (lowest holds (from 1 size)) 0) refl z
         → (if t then passed else ruling (suc n) (lowest holds (from 1 size))).number ≡ 0 → lowest holds (from 1 size) ≡ 0
     go true e z = eqb-true _ _ e
     go false e z = absurd (omega arith)
+
+-- a row by what the search for its place finds
+module _ (n : ℕ) (holds : ℕ → Bool) (size : ℕ) {v : Option ℕ} where
+  pub row_at_found : {r : ℕ} → v ≡ Some r → v ≡ nonzero (lowest holds (from 1 size)) → row_at n holds size ≡ ruling n r
+  row_at_found {r} is e = go (eqb (lowest holds (from 1 size)) 0) (sym is ∙ e)
+    where
+      go : (t : Bool) → Some r ≡ (if t then None else Some (lowest holds (from 1 size)))
+          → (if t then passed else ruling n (lowest holds (from 1 size))) ≡ ruling n r
+      go true h = absurd cc
+      go false h = let p : r ≡ lowest holds (from 1 size) = cc in rw p
+
+  pub row_at_passed : v ≡ None → v ≡ nonzero (lowest holds (from 1 size)) → row_at n holds size ≡ passed
+  row_at_passed is e = go (eqb (lowest holds (from 1 size)) 0) (sym is ∙ e)
+    where
+      go : (t : Bool) → None ≡ (if t then None else Some (lowest holds (from 1 size)))
+          → (if t then passed else ruling n (lowest holds (from 1 size))) ≡ passed
+      go true h = refl
+      go false h = absurd cc
 
 -- the converse: rows that pass, and a row whose condition fails
 pub both_passes : (a b : Ruling) → a.number ≡ 0 → b.number ≡ 0 → (a ▸ b).number ≡ 0

@@ -1,5 +1,5 @@
 -- What a call's reply says of its ruling, and the mission's first demand of it.
-use Rattle.std.specs.Prelude.{if◌then◌else◌}
+use Rattle.std.specs.Prelude.{if◌then◌else◌, Result, Ok, Err}
 use Prim.Native.Nat.{ℕ, ◌≤◌}
 use mathlib.Core.Path.{◌≡◌, refl, sym, ap, ◌∙◌}
 use mathlib.Core.Bool.{Bool, true, false}
@@ -9,9 +9,9 @@ use lib.Dec.{eqb}
 use lib.ListN.{length, replicate}
 use borrow.Author.Tests.{eq-eqb, ne_eqb, eqb-true}
 use Rattle.refusals.specs.Refusals.{Ruling, refusal}
-use Rattle.refusals.specs.Reply.{Reply, ruling_of, granted, refused, replied}
+use Rattle.refusals.specs.Reply.{Reply, ruling_of, granted, refused, answer_told, replied}
 use Rattle.refusals.specs.Table.{Row, Gives, Decided}
-use Rattle.refusals.specs.declared.verdict.Refusal.{Refusal}
+use Rattle.refusals.specs.declared.refusal.Refusal.{Refusal}
 use Rattle.refusals.proofs.Refusals.{refusal_numbered, refusal_determined}
 use Rattle.refusals.proofs.Tables.{gives_passed}
 
@@ -66,11 +66,14 @@ module _ {Figures : Type 0} (none : Figures) (t : Ruling) (f : Figures) where
       }
 
 -- what is told determines an answer: a refusal is told apart from what is granted, and from every other
-module _ {Figures : Type 0} {none : Figures} where
-  pub granted_apart : {f : Figures} (e : Refusal) → granted f ≡ refused none (refusal e) → ⊥
-  granted_apart e h =
+module _ {Figures : Type 0} (none : Figures) where
+  granted_apart : (f : Figures) (e : Refusal) → granted f ≡ refused none (refusal e) → ⊥
+  granted_apart f e h =
       let z : 0 ≡ (refusal e).number = ap (λ (r : Reply Figures). r.number) h in
       omega (arith, refusal_numbered e)
 
-  pub refused_determined : (d e : Refusal) → refused none (refusal d) ≡ refused none (refusal e) → d ≡ e
-  refused_determined d e h = refusal_determined d e (ap ruling_of h)
+  pub answer_determined : (a b : Result Figures Refusal) → answer_told none a ≡ answer_told none b → a ≡ b
+  answer_determined (Ok f) (Ok g) h = ap Ok (ap (λ (r : Reply Figures). r.figures) h)
+  answer_determined (Ok f) (Err e) h = absurd (granted_apart f e h)
+  answer_determined (Err d) (Ok g) h = absurd (granted_apart g d (sym h))
+  answer_determined (Err d) (Err e) h = ap Err (refusal_determined d e (ap ruling_of h))

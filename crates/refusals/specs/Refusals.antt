@@ -1,8 +1,7 @@
 -- What a call is told: a refusal's number and place, or no refusal. Tables of refusals as they are judged, row by row.
-use Rattle.std.specs.Prelude.{if◌then◌else◌, ℕ, Bool, List, eqb}
+use Rattle.std.specs.Prelude.{if◌then◌else◌, ℕ, Bool, List, Result, Ok, Err, eqb}
 use Rattle.lists.specs.Lists.{from, lowest, over}
-use Rattle.refusals.specs.declared.verdict.Refusal.{Refusal}
-use Rattle.refusals.specs.declared.verdict.Verdict.{Verdict}
+use Rattle.refusals.specs.declared.refusal.Refusal.{Refusal}
 
 -- a refusal's number in the table and its place, or 0 and 0
 pub record Ruling : Type 0 where
@@ -35,9 +34,9 @@ refusal (Refusal.BadMarks r) = ruling 14 r
 refusal Refusal.TooManyPicks = ruling 15 0
 
 -- and of what a judge answers
-abbrev pub told : Verdict → Ruling
-told Verdict.Accepted = passed
-told (Verdict.Refused e) = refusal e
+abbrev pub told : Result Unit Refusal → Ruling
+told (Ok _) = passed
+told (Err e) = refusal e
 
 -- rows in their order: the first that holds is given
 infixr 20 ◌▸◌

@@ -1,4 +1,6 @@
 // Refusals: the rows of the tables that calls are judged by, with their numbers and places.
 #![tactic(auto)]
 
-pub mod verdict;
+mod refusal;
+
+pub use refusal::Refusal;

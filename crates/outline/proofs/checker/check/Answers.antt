@@ -1,5 +1,6 @@
 -- `outline::checker::check` meets its contract: the rows on the size come first.
 use Rattle.std.proofs.Common.{sym, ap}
+use Rattle.std.proofs.lemmas.Result.{err_from_is_err_and}
 use Rattle.refusals.specs.Refusals.{Ruling}
 use Rattle.refusals.proofs.Refusals.{refusal_not_zero}
 use Rattle.outline.specs.Answer.{checked}
@@ -8,12 +9,14 @@ use Rattle.outline.proofs.checker.check.Goals as goal
 
 -- the rows on the size passed
 pub check_records-requires : goal.check_records-requires
-check_records-requires c = (sizes_formed _ (sym (ap (λ (t : Ruling). t.number) c.in-Accepted.ensures))).2
+check_records-requires c = (sizes_formed _ (sym (ap (λ (t : Ruling). t.number) c.in_ok-check_size.ensures))).2
 
-pub returns-in-Accepted : goal.returns-in-Accepted
+pub returns-in_err-check_size : goal.returns-in_err-check_size
 unfolding checked
-returns-in-Accepted c = simp (← c.in-Accepted.ensures, c.check_records.ensures)
+returns-in_err-check_size c =
+    let p = err_from_is_err_and c.from_residual.result c.from_residual.ensures.1 in
+    rw (p.1, p.2) (simp (← c.in_err-check_size.ensures, refusal_not_zero))
 
-pub returns-in-Refused : goal.returns-in-Refused
+pub returns : goal.returns
 unfolding checked
-returns-in-Refused c = simp (← c.in-Refused.ensures, c.in-Refused.is, refusal_not_zero)
+returns c = simp (← c.in_ok-check_size.ensures, c.check_records.ensures)

@@ -1,55 +1,50 @@
 -- `outline::checker::check_records` meets its contract: the rows that passed leave the answer to the next one.
-use Rattle.std.proofs.Common.{arith, eq-eqb, ne_eqb, lt-ltb, le-ltb}
-use Rattle.outline.specs.Inner.{breaks}
+use Rattle.std.proofs.Common.{arith, rules, lt-ltb, le-ltb}
+use Rattle.refusals.proofs.Refusals.{row_at_found, row_at_passed}
 use Rattle.outline.specs.Answer.{record_rows}
-use Rattle.outline.specs.Rules.{most_taxa}
+use Rattle.outline.specs.Rules.{most_taxa, bad_field, bad_link, is_duplicate}
 use Rattle.outline.proofs.checker.check_records.Goals as goal
 
-pub returns-then-field-ne0 : goal.returns-then-field-ne0
-unfolding record_rows breaks
-returns-then-field-ne0 c = simp (← c.broken_at-field.ensures, ne_eqb _ _ c.if-field-ne0.true)
+pub returns-in-Some : goal.returns-in-Some
+unfolding record_rows
+returns-in-Some c = simp (row_at_found 5 _ _ c.in-Some.is (c.lowest.ensures (bad_field c.args.outline.now) (λ r l u b p. search rules)))
 
-pub returns-then-link-ne0 : goal.returns-then-link-ne0
-unfolding record_rows breaks
-returns-then-link-ne0 c =
-    simp (← c.broken_at-field.ensures, eq-eqb _ _ c.if-field-ne0.false, ← c.broken_at-link.ensures, ne_eqb _ _ c.if-link-ne0.true)
+pub returns-in-Some-lowest : goal.returns-in-Some-lowest
+unfolding record_rows
+returns-in-Some-lowest c =
+    simp (
+      row_at_passed 5 _ _ c.in_default.is (c.lowest.ensures (bad_field c.args.outline.now) (λ r l u b p. search rules)),
+      row_at_found 6 _ _ c.in-Some-lowest.is (c.lowest-2.ensures (bad_link c.args.outline.now) (λ r l u b p. search rules)),
+    )
 
 pub returns-then-taxa_of-gt-MOST_TAXA : goal.returns-then-taxa_of-gt-MOST_TAXA
-unfolding record_rows breaks
+unfolding record_rows
 returns-then-taxa_of-gt-MOST_TAXA c =
     simp (
-      ← c.broken_at-field.ensures,
-      eq-eqb _ _ c.if-field-ne0.false,
-      ← c.broken_at-link.ensures,
-      eq-eqb _ _ c.if-link-ne0.false,
+      row_at_passed 5 _ _ c.in_default.is (c.lowest.ensures (bad_field c.args.outline.now) (λ r l u b p. search rules)),
+      row_at_passed 6 _ _ c.in_default-lowest.is (c.lowest-2.ensures (bad_link c.args.outline.now) (λ r l u b p. search rules)),
       ← c.taxa_of.ensures,
       lt-ltb most_taxa c.taxa_of.result (omega (arith, c.if-taxa_of-gt-MOST_TAXA.true)),
     )
 
-pub returns-then-duplicate-ne0 : goal.returns-then-duplicate-ne0
-unfolding record_rows breaks
-returns-then-duplicate-ne0 c =
+pub returns-in-Some-lowest-2 : goal.returns-in-Some-lowest-2
+unfolding record_rows
+returns-in-Some-lowest-2 c =
     simp (
-      ← c.broken_at-field.ensures,
-      eq-eqb _ _ c.if-field-ne0.false,
-      ← c.broken_at-link.ensures,
-      eq-eqb _ _ c.if-link-ne0.false,
+      row_at_passed 5 _ _ c.in_default.is (c.lowest.ensures (bad_field c.args.outline.now) (λ r l u b p. search rules)),
+      row_at_passed 6 _ _ c.in_default-lowest.is (c.lowest-2.ensures (bad_link c.args.outline.now) (λ r l u b p. search rules)),
       ← c.taxa_of.ensures,
       le-ltb most_taxa c.taxa_of.result (omega (arith, c.if-taxa_of-gt-MOST_TAXA.false)),
-      ← c.broken_at-duplicate.ensures,
-      ne_eqb _ _ c.if-duplicate-ne0.true,
+      row_at_found 8 _ _ c.in-Some-lowest-2.is (c.lowest-3.ensures (is_duplicate c.args.outline.now) (λ r l u b p. search rules)),
     )
 
 pub returns : goal.returns
-unfolding record_rows breaks
+unfolding record_rows
 returns c =
     simp (
-      ← c.broken_at-field.ensures,
-      eq-eqb _ _ c.if-field-ne0.false,
-      ← c.broken_at-link.ensures,
-      eq-eqb _ _ c.if-link-ne0.false,
+      row_at_passed 5 _ _ c.in_default.is (c.lowest.ensures (bad_field c.args.outline.now) (λ r l u b p. search rules)),
+      row_at_passed 6 _ _ c.in_default-lowest.is (c.lowest-2.ensures (bad_link c.args.outline.now) (λ r l u b p. search rules)),
       ← c.taxa_of.ensures,
       le-ltb most_taxa c.taxa_of.result (omega (arith, c.if-taxa_of-gt-MOST_TAXA.false)),
-      ← c.broken_at-duplicate.ensures,
-      eq-eqb _ _ c.if-duplicate-ne0.false,
+      row_at_passed 8 _ _ c.in_default-lowest-2.is (c.lowest-3.ensures (is_duplicate c.args.outline.now) (λ r l u b p. search rules)),
     )

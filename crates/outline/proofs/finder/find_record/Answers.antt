@@ -4,10 +4,10 @@ use Rattle.outline.specs.Outline.{records}
 use Rattle.outline.specs.Answer.{found_at}
 use Rattle.outline.proofs.finder.find_record.Goals as goal
 
-pub returns-in-Refused : goal.returns-in-Refused
+pub returns-in-Err : goal.returns-in-Err
 unfolding found_at
-returns-in-Refused c = simp (← c.in-Refused.ensures, refusal_not_zero)
+returns-in-Err c = simp (← c.in-Err.ensures, refusal_not_zero)
 
-pub returns-in-Accepted : goal.returns-in-Accepted
+pub returns-in-Ok : goal.returns-in-Ok
 unfolding found_at records
-returns-in-Accepted c = simp (← c.in-Accepted.ensures, ← c.holder_of.ensures)
+returns-in-Ok c = simp (← c.in-Ok.ensures, c.holder_of.ensures)

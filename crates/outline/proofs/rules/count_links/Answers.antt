@@ -18,3 +18,9 @@ loop-r-preserved c =
 
 pub returns : goal.returns
 returns c = tallying_ends _ c.requires c.loop-r.invariant c.loop-r-test.false
+
+-- after the last record
+pub returns-2 : goal.returns-2
+returns-2 c =
+    rw (c.count_link-in-loop-r.ensures, c.first_of.ensures, c.count_link.ensures, c.next_of.ensures)
+    (tallying_ends _ c.requires (tallying_goes _ c.loop-r.invariant c.loop-r-test.true) (omega arith))

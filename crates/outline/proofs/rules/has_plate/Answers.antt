@@ -6,8 +6,8 @@ use Rattle.outline.proofs.rules.has_plate.Goals as goal
 
 pub returns-then-plate_of-plate : goal.returns-then-plate_of-plate
 unfolding has_plate
-returns-then-plate_of-plate c = simp (← c.plate_of.ensures, ne_eqb _ _ c.if-plate_of-plate.true, and_false)
+returns-then-plate_of-plate c = simp (← c.plate_of.ensures, eq-eqb _ _ c.if-plate_of-plate.true, ← c.is_taxon.ensures, and_true)
 
-pub returns : goal.returns
+pub returns-else-plate_of-plate : goal.returns-else-plate_of-plate
 unfolding has_plate
-returns c = simp (← c.plate_of.ensures, eq-eqb _ _ c.if-plate_of-plate.false, ← c.is_taxon.ensures, and_true)
+returns-else-plate_of-plate c = simp (← c.plate_of.ensures, ne_eqb _ _ c.if-plate_of-plate.false, and_false)
