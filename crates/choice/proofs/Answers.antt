@@ -1,4 +1,5 @@
 -- What a call keeps that no row of the table refuses, and the two ways to answer it.
+use Rattle.std.specs.Prelude.{Ok, Err}
 use Prim.Native.Nat.{ℕ, ◌≤◌}
 use mathlib.Core.Path.{◌≡◌, sym, ◌∙◌}
 use mathlib.Core.Logic.{◌⊎◌}
@@ -12,17 +13,16 @@ use borrow.Author.Tests.{ltb-false, eqb-true}
 use Rattle.lists.specs.Lists.{over}
 use Rattle.lists.proofs.Bools.{both_false}
 use Rattle.refusals.specs.Refusals.{refusal}
-use Rattle.refusals.specs.declared.verdict.Refusal.{Refusal}
+use Rattle.refusals.specs.declared.refusal.Refusal.{Refusal}
 use Rattle.refusals.proofs.Tables.{two_ways}
 use Rattle.refusals.proofs.Refusals.{both_pass, row_fails, refusal_not_zero}
 use Rattle.outline.specs.Answer.{size_rows, record_rows, checked}
 use Rattle.outline.proofs.WellFormed.{rows_kept}
 use Rattle.diversity.specs.Search.{none_fits}
 use Rattle.laws.proofs.Optimum.{none_exactly}
-use Rattle.choice.specs.Answer.{Call, Answered, told, most_count, work_taken, too_short, judged, is_selected, figures, reply}
+use Rattle.choice.specs.Answer.{Call, Figures, Answered, told, most_count, work_taken, too_short, judged, is_selected, figures, reply}
 use Rattle.choice.specs.Answer.{curve_of, marks_after, curve_after, work_after}
 use Rattle.choice.specs.Inner.{Solvable, Solved}
-use Rattle.choice.specs.declared.answer.Answer.{Answer}
 
 module _ (c : Call) where
   -- the rows, one by one, where none holds
@@ -98,18 +98,18 @@ module _ (c : Call) where
         }
 
     -- a selection
-    pub solved_answered : {answer : Answer} {marks curve work : List ℕ} → Solved (with_work n) answer marks curve work
-        → Answered c (told answer) marks curve (work ++ drop n c.work)
+    pub solved_answered : {f : Figures} {marks curve work : List ℕ} → Solved (with_work n) f marks curve work
+        → Answered c (told (Ok f)) marks curve (work ++ drop n c.work)
     unfolding reply figures marks_after curve_after work_after curve_of over
     solved_answered s = record {
-      told_reply = rw e s.told_granted;
+      told_reply = rw (e, s.told_figures);
       marks_written = rw e s.marks_written;
       curve_written = rw e s.curve_written;
       work_cleared = rw (e, s.work_cleared, part_long, ← taken, length-replicate);
     }
 
   -- a refusal
-  pub refused_answered : (e : Refusal) → refusal e ≡ judged c → Answered c (told (Answer.Refused e)) c.marks c.curve c.work
+  pub refused_answered : (e : Refusal) → refusal e ≡ judged c → Answered c (told (Err e)) c.marks c.curve c.work
   unfolding reply marks_after curve_after work_after
   refused_answered e h =
       let number : is_selected c ≡ false = rw (← h) (refusal_not_zero e) in

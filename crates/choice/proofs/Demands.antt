@@ -1,4 +1,5 @@
 -- The mission's three demands, for every call: what the contract of `choose` says of the answer and the buffers is what they ask.
+use Rattle.std.specs.Prelude.{Result}
 use Prim.Native.Nat.{ℕ, ◌+◌, ◌-◌, ◌≤◌}
 use mathlib.Core.Path.{◌≡◌, refl, sym, ap, ◌∙◌}
 use mathlib.Core.Bool.{Bool, true, false}
@@ -9,9 +10,10 @@ use lib.Dec.{leb}
 use lib.Seq.{take_at}
 use borrow.Author.Tests.{eq-eqb, ne_eqb, leb-true, leb-false}
 use Rattle.lists.specs.Lists.{over}
+use Rattle.refusals.specs.declared.refusal.Refusal.{Refusal}
 use Rattle.refusals.specs.Reply.{Reply, granted}
 use Rattle.refusals.specs.Table.{Gives}
-use Rattle.refusals.proofs.Replies.{told_passed, decided, granted_apart, refused_determined}
+use Rattle.refusals.proofs.Replies.{told_passed, decided, answer_determined}
 use Rattle.refusals.proofs.Tests.{Decides, decides_less, decides_either}
 use Rattle.refusals.proofs.Tables.{gives_then, gives_whole, gives_way}
 use Rattle.outline.specs.Outline.{size, is_taxon, locked}
@@ -29,26 +31,16 @@ use Rattle.laws.proofs.Spare.{spare_left}
 use Rattle.laws.proofs.Subtrees.{diversity_subtree}
 use Rattle.laws.proofs.Headings.{cost_opened}
 use Rattle.laws.proofs.Free.{free_chosen}
-use Rattle.choice.specs.Answer.{Call, Figures, Answered, numbers_of, told, most_count, too_short, judged, is_selected}
+use Rattle.choice.specs.Answer.{Call, Figures, no_figures, Answered, numbers_of, told, most_count, too_short, judged, is_selected}
 use Rattle.choice.specs.Answer.{best_set, figures, reply, curve_of, diversity_at, cost_at, marks_after, curve_after, work_after}
 use Rattle.choice.specs.Demands.{choose_table, SelectedOrRefused, marked_set, TrueOfMarks, Shown, some_set, no_set, TrueColumn, FoundBySearch}
-use Rattle.choice.specs.declared.answer.Answer.{Answer}
 use Rattle.choice.proofs.Answers.{way_known, selected_solvable}
 use Rattle.choice.proofs.Solving.{curve_diversity, curve_cost}
 
 -- ---- what the numbers say of the answer itself
 -- a selection tells 0, and its numbers are the answer's; a refusal tells its own number and place
-pub told_determined : (a b : Answer) → told a ≡ told b → a ≡ b
-told_determined (Answer.Selected d k t s) (Answer.Selected e l u v) h =
-    let f : (told (Answer.Selected d k t s)).figures ≡ (told (Answer.Selected e l u v)).figures = ap (λ (r : Reply Figures). r.figures) h in
-    let x : d ≡ e = ap (λ (g : Figures). g.diversity) f in
-    let y : k ≡ l = ap (λ (g : Figures). g.cost) f in
-    let z : t ≡ u = ap (λ (g : Figures). g.taxa) f in
-    let w : s ≡ v = ap (λ (g : Figures). g.spare) f in
-    rw (x, y, z, w)
-told_determined (Answer.Selected d k t s) (Answer.Refused e) h = absurd (granted_apart e h)
-told_determined (Answer.Refused d) (Answer.Selected e l u v) h = absurd (granted_apart d (sym h))
-told_determined (Answer.Refused d) (Answer.Refused e) h = ap Answer.Refused (refused_determined d e h)
+pub told_determined : (a b : Result Figures Refusal) → told a ≡ told b → a ≡ b
+told_determined = answer_determined no_figures
 
 -- the search ends with nothing in hand exactly if no set fits
 pub none_decided : (o : List ℕ) (way b : ℕ) → Decides (NoneFits o b) (none_fits o way b)

@@ -26,9 +26,8 @@ use Rattle.rows.proofs.TopRow.{Tells, top_row_lem}
 use Rattle.cells.specs.Cells.{unit, lift, seen, view, code_of, cell}
 use Rattle.table.specs.Table.{Filled}
 use Rattle.cells.specs.declared.candidate.Candidate.{Candidate}
-use Rattle.choice.specs.Answer.{Call, told, most_count, best_set, figures, columns, curve_of, diversity_at, cost_at}
+use Rattle.choice.specs.Answer.{Call, Figures, most_count, best_set, figures, columns, curve_of, diversity_at, cost_at}
 use Rattle.choice.specs.Inner.{top_diversity, top_cost, level, Solvable, Solved}
-use Rattle.choice.specs.declared.answer.Answer.{Answer}
 use Rattle.choice.proofs.Columns.{columns_long, column_diversity, column_cost, columns_ext, alike_ext}
 use Rattle.choice.proofs.Shown.{complete_is, shown_by}
 use Rattle.outline.specs.Rules.{most_records}
@@ -104,7 +103,11 @@ set_of_lem score set {v} e = go (eqb score 0) e
     go true e = let z : ◌≡◌ {A = ℕ} 0 1 = cc in absurd (omega arith)
     go false e = ap code_of e
 
-selected_path : {d e k m t u l n : ℕ} → d ≡ e → k ≡ m → t ≡ u → l ≡ n → told (Answer.Selected d k t l) ≡ told (Answer.Selected e m u n)
+-- the figures of a selection
+abbrev pub selected : ℕ → ℕ → ℕ → ℕ → Figures
+selected d k t l = record { diversity = d; cost = k; taxa = t; spare = l }
+
+selected_path : {d e k m t u l n : ℕ} → d ≡ e → k ≡ m → t ≡ u → l ≡ n → selected d k t l ≡ selected e m u n
 selected_path p q r s = rw (p, q, r, s)
 
 module _ (c : Call) (s : Solvable c) (table : List ℕ) (filled : Filled c.outline c.way (c.count + 1) table) where
@@ -140,14 +143,14 @@ module _ (c : Call) (s : Solvable c) (table : List ℕ) (filled : Filled c.outli
       → work ≡ replicate (length c.work) 0
       → taxa ≡ chosen_taxa c.outline marks
       → left ≡ columns_alike (level curve (diversity_at curve c.count)) c.count
-      → Solved c (Answer.Selected (diversity_at curve c.count) (cost_at curve c.count) taxa left) marks curve work
+      → Solved c (selected (diversity_at curve c.count) (cost_at curve c.count) taxa left) marks curve work
   unfolding figures
   solved best {marks} {curve} is_best m held k w t l =
       let marked : marks ≡ over (best_set c) c.marks = m ∙ ap (λ x. over x c.marks) (best_marks best is_best) in
       let drawn : curve ≡ over (curve_of c) c.curve = rw held at k ∙ ap (λ x. over x c.curve) top_curve in
       let fit = s.locked_fit in
       record {
-        told_granted =
+        told_figures =
             selected_path (ap (λ x. diversity_at x c.count) drawn ∙ curve_diversity c c.curve c.count (omega arith) ∙ shown_diversity _ _ _ fit)
             (ap (λ x. cost_at x c.count) drawn ∙ curve_cost c c.curve c.count (omega arith) ∙ shown_cost _ _ _ fit)
             (t ∙ ap (chosen_taxa c.outline) marked ∙ taxa_over c.outline (best_set c) c.marks (optimum_set _ _ _ fit))

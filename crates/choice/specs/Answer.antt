@@ -1,13 +1,14 @@
 -- What a call of `choose` is answered, and what it leaves in the buffers that it was lent.
-use Rattle.std.specs.Prelude.{ℕ, ◌+◌, ◌*◌, ◌≡◌, Bool, ◌||◌, ◌&&◌, not, List, [], ◌∷◌, length, get_or, replicate, eqb, ltb}
+use Rattle.std.specs.Prelude.{Result, ℕ, ◌+◌, ◌*◌, ◌≡◌, Bool, ◌||◌, ◌&&◌, not, List, [], ◌∷◌, length, get_or, replicate, eqb, ltb}
 use Rattle.lists.specs.Lists.{from}
-use Rattle.refusals.specs.Refusals.{Ruling, refusal, row, ◌▸◌, after}
-use Rattle.refusals.specs.Reply.{Reply, granted, refused, replied}
+use Rattle.refusals.specs.Refusals.{Ruling, row, ◌▸◌, after}
+use Rattle.refusals.specs.declared.refusal.Refusal.{Refusal}
+use Rattle.refusals.specs.Reply.{Reply, answer_told, replied}
 use Rattle.outline.specs.Outline.{size}
 use Rattle.outline.specs.Answer.{size_rows, record_rows}
 use Rattle.diversity.specs.Diversity.{diversity, cost, chosen_taxa}
 use Rattle.diversity.specs.Search.{optimum, none_fits, best_diversity, least_cost, spare}
-use Rattle.choice.specs.declared.answer.Answer.{Answer}
+pub use Rattle.choice.specs.declared.answer.Figures.{Figures}
 
 -- a call: the outline, the page count, the way, and the lent buffers as they came in
 pub record Call : Type 0 where
@@ -22,13 +23,6 @@ abbrev pub call : List ℕ → ℕ → ℕ → List ℕ → List ℕ → List �
 call outline count way marks curve work =
     record { outline = outline; count = count; way = way; marks = marks; curve = curve; work = work }
 
--- what a selection tells: diversity, cost, number of taxa, and spare
-pub record Figures : Type 0 where
-  pub diversity : ℕ
-  pub cost : ℕ
-  pub taxa : ℕ
-  pub spare : ℕ
-
 -- on a refusal they are 0
 abbrev pub no_figures : Figures
 no_figures = record { diversity = 0; cost = 0; taxa = 0; spare = 0 }
@@ -37,9 +31,8 @@ abbrev pub numbers_of : Figures → List ℕ
 numbers_of f = f.diversity ∷ f.cost ∷ f.taxa ∷ f.spare ∷ []
 
 -- the numbers of each answer
-abbrev pub told : Answer → Reply Figures
-told (Answer.Selected d c t s) = granted (record { diversity = d; cost = c; taxa = t; spare = s })
-told (Answer.Refused e) = refused no_figures (refusal e)
+abbrev pub told : Result Figures Refusal → Reply Figures
+told = answer_told no_figures
 
 -- page counts go up to this
 abbrev pub most_count : ℕ

@@ -1,7 +1,6 @@
 -- What the functions behind `choose` speak of.
 use Rattle.std.specs.Prelude.{if◌then◌else◌, ℕ, ◌+◌, ◌*◌, ◌≤◌, ◌≡◌, Bool, ◌&&◌, not, List, eqb, length, replicate}
 use Rattle.lists.specs.Lists.{over}
-use Rattle.refusals.specs.Reply.{granted}
 use Rattle.outline.specs.Outline.{size}
 use Rattle.outline.specs.WellFormed.{WellFormed}
 use Rattle.diversity.specs.Diversity.{cost}
@@ -9,8 +8,7 @@ use Rattle.diversity.specs.Search.{blank_cost}
 use Rattle.laws.specs.Candidate.{Cand}
 use Rattle.laws.specs.Locks.{locked_set}
 use Rattle.cells.specs.Cells.{cell, locked_of, diversity_of, cost_of}
-use Rattle.choice.specs.Answer.{Call, told, most_count, marks_taken, curve_taken, work_taken, best_set, figures, curve_of, diversity_at, cost_at}
-use Rattle.choice.specs.declared.answer.Answer.{Answer}
+use Rattle.choice.specs.Answer.{Call, Figures, most_count, marks_taken, curve_taken, work_taken, best_set, figures, curve_of, diversity_at, cost_at}
 use Rattle.choice.specs.declared.curve.Column.{Column}
 use Rattle.outline.specs.Rules.{most_records}
 
@@ -56,9 +54,9 @@ pub record Solvable (c : Call) : Type 0 where
   pub curve_long : curve_taken c.count ≤ length c.curve
   pub work_long : work_taken c.outline c.count ≤ length c.work
 
--- what it ensures: the selection, and the buffers written over, work all 0
-pub record Solved (c : Call) (answer : Answer) (marks curve work : List ℕ) : Type 0 where
-  pub told_granted : told answer ≡ granted (figures c)
+-- what it ensures: the figures of the selection, and the buffers written over, work all 0
+pub record Solved (c : Call) (told : Figures) (marks curve work : List ℕ) : Type 0 where
+  pub told_figures : told ≡ figures c
   pub marks_written : marks ≡ over (best_set c) c.marks
   pub curve_written : curve ≡ over (curve_of c) c.curve
   pub work_cleared : work ≡ replicate (length c.work) 0

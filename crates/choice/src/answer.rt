@@ -1,13 +1,10 @@
-// What choosing answers.
-use refusals::verdict::Refusal;
+// What choosing tells.
 
-#[derive(Drop)]
-pub enum Answer {
-    Selected {
-        diversity: u32,
-        cost: u32,
-        taxa: u32,
-        spare: u32,
-    },
-    Refused(Refusal),
+// The diversity, cost and number of taxa of the best set, and how many quarters can go with the diversity unchanged.
+#[derive(Clone, Copy, Debug, PartialEq, Eq)]
+pub struct Figures {
+    pub diversity: u32,
+    pub cost: u32,
+    pub taxa: u32,
+    pub spare: u32,
 }

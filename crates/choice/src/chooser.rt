@@ -3,12 +3,12 @@ ghost use Rattle.std.specs.Prelude.{◌≡◌, length, replicate};
 ghost use Rattle.choice.specs.Answer.{call, told, Answered};
 ghost use Rattle.choice.specs.Inner.{Solvable, Solved};
 
-use super::answer::Answer;
+use super::answer::Figures;
 use super::curve::{spare_of, write_curve};
 use super::judge::{judge, work_taken};
 use super::marks::write_marks;
 use measures::{locks_of, marked};
-use refusals::verdict::Verdict;
+use refusals::Refusal;
 use table::{best_at, fill};
 
 // Makes every number 0.
@@ -30,7 +30,7 @@ fn solve(
     marks: &mut [u8],
     curve: &mut [u32],
     work: &mut [u64],
-) -> Answer
+) -> Figures
     requires { Solvable
         (call o.now count way marks.old curve.old work.old) }
     ensures { Solved
@@ -44,7 +44,7 @@ fn solve(
     let best = best_at(work, width, b);
     write_marks(o, best.set, marks);
     clear(work);
-    Answer::Selected {
+    Figures {
         diversity: curve[2 * b],
         cost: curve[2 * b + 1],
         taxa: marked(o, marks),
@@ -60,16 +60,12 @@ pub fn choose(
     marks: &mut [u8],
     curve: &mut [u32],
     work: &mut [u64],
-) -> Answer
+) -> Result<Figures, Refusal>
     ensures { Answered
         (call outline.now count way marks.old curve.old work.old)
         (told result) marks.new curve.new work.new }
 {
-    match judge(outline, count, way, marks, curve, work) {
-        Verdict::Refused(refusal) => Answer::Refused(refusal),
-        Verdict::Accepted => {
-            let taken = work_taken(outline, count);
-            solve(outline, count, way, marks, curve, &mut work[..taken])
-        }
-    }
+    judge(outline, count, way, marks, curve, work)?;
+    let taken = work_taken(outline, count);
+    Ok(solve(outline, count, way, marks, curve, &mut work[..taken]))
 }

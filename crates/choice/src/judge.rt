@@ -6,7 +6,7 @@ ghost use Rattle.choice.specs.Inner.{WithinLimits};
 
 use measures::locked_cost;
 use outline::checker::{check_records, check_size};
-use refusals::verdict::{Refusal, Verdict};
+use refusals::Refusal;
 
 pub const MOST_COUNT: u32 = 4096;
 
@@ -26,32 +26,26 @@ pub fn judge(
     marks: &[u8],
     curve: &[u32],
     work: &[u64],
-) -> Verdict
+) -> Result<(), Refusal>
     ensures { told result ≡ judged
         (call outline.now count way marks.now curve.now work.now) }
 {
     if (way != 0) & (way != 1) {
-        return Verdict::Refused(Refusal::UnknownWay);
+        return Err(Refusal::UnknownWay);
     }
-    let size = check_size(outline);
-    if let Verdict::Refused(_) = size {
-        return size;
-    }
+    check_size(outline)?;
     if MOST_COUNT < count {
-        return Verdict::Refused(Refusal::CountTooLarge);
+        return Err(Refusal::CountTooLarge);
     }
-    let records = check_records(outline);
-    if let Verdict::Refused(_) = records {
-        return records;
-    }
+    check_records(outline)?;
     let marks_short = marks.len() < outline.len() / 16;
     let curve_short = curve.len() < 2 * (count as usize + 1);
     let work_short = work.len() < work_taken(outline, count);
     if marks_short | (curve_short | work_short) {
-        return Verdict::Refused(Refusal::BufferTooShort);
+        return Err(Refusal::BufferTooShort);
     }
     if count < locked_cost(outline) {
-        return Verdict::Refused(Refusal::LockedTooDear);
+        return Err(Refusal::LockedTooDear);
     }
-    Verdict::Accepted
+    Ok(())
 }

@@ -1,12 +1,12 @@
 // Choosing: which taxa of an outline are best for a page count, and the curve of all counts up to it.
 #![tactic(auto)]
 
-pub mod answer;
+mod answer;
 mod chooser;
 mod curve;
 mod judge;
 mod marks;
 
-pub use answer::Answer;
+pub use answer::Figures;
 pub use chooser::choose;
 pub use judge::MOST_COUNT;

@@ -12,7 +12,7 @@ use Rattle.lists.proofs.Buffers.{over_taken}
 use borrow.Author.Tests.{eq-eqb}
 use Rattle.refusals.specs.Refusals.{Ruling}
 use Rattle.refusals.specs.Reply.{Reply, granted, refused}
-use Rattle.refusals.specs.declared.verdict.Refusal.{Refusal}
+use Rattle.refusals.specs.declared.refusal.Refusal.{Refusal}
 use Rattle.refusals.proofs.Replies.{granted_told, told_passed, granted_apart}
 use Rattle.outline.specs.Outline.{short, size, records}
 use Rattle.diversity.specs.Diversity.{chosen, chosen_taxa}
@@ -20,10 +20,10 @@ use Rattle.diversity.specs.Behind.{IsSet}
 use Rattle.laws.proofs.Optimum.{optimum_set}
 use Rattle.laws.proofs.Prefixes.{taxa_step, taxa_nothing}
 use Rattle.choice.specs.Answer.{Call, Figures, no_figures, told, judged, is_selected, best_set, figures, reply, curve_of, marks_after, curve_after}
-use Rattle.choice.specs.declared.answer.Answer.{Answer}
 use Rattle.choice.proofs.Answers.{way_known, selected_accepted, selected_solvable}
 use Rattle.choice.proofs.Solving.{curve_diversity, curve_cost}
 use Rattle.sheet.specs.Answer as sheets
+use Rattle.sheet.specs.declared.answer.Figures.{Figures as SheetFigures}
 use Rattle.sheet.specs.Sheet.{row_of, rows_of}
 use Rattle.sheet.specs.declared.answer.Answer.{Answer as Listing}
 use Rattle.sheet.proofs.Answers.{set_long, listable}
@@ -109,7 +109,7 @@ module _ (o : List ℕ) (way : ℕ) (s lent : List ℕ) where
       ap (λ t. taxa_text sheet (chosen_taxa o t)) (sym all) ∙ lines_so_far (size o) (omega arith)
 
 -- a call of `sheet` that is told 0 has the sheet's lines, and the sums of the total
-module _ (c : sheets.Call) {r : Reply sheets.Figures} {lent : List ℕ} (x : sheets.Answered c r lent) (passes : (sheets.judged c).number ≡ 0) where
+module _ (c : sheets.Call) {r : Reply SheetFigures} {lent : List ℕ} (x : sheets.Answered c r lent) (passes : (sheets.judged c).number ≡ 0) where
   told_listing : r ≡ granted (sheets.figures c)
   unfolding sheets.reply
   told_listing = x.told_reply ∙ granted_told _ _ _ passes

@@ -9,7 +9,7 @@ use super::refusal::put_refusal;
 use super::taxa::put_sheet;
 use choice::{Answer, choose};
 use outline::fields::short_at;
-use refusals::verdict::Refusal;
+use refusals::Refusal;
 use text::put_line;
 
 // The first line, the columns and the sheet.
@@ -48,7 +48,7 @@ fn list_bytes(buffer: &mut [u8], bytes: &[u8]) -> usize
     let outline = &bytes[4..];
     let answer = choose(outline, count, way, &mut marks, &mut curve, &mut work);
     match answer {
-        Answer::Refused(refusal) => put_refusal(buffer, refusal),
+        Err(refusal) => put_refusal(buffer, refusal),
         Answer::Selected {
             diversity,
             cost,

@@ -55,6 +55,6 @@ pub fn put_sheet(buffer: &mut [u8], at: usize, o: &[u8], way: u32, marks: &[u8])
                 &[quarters as u64, diversity as u64],
             )
         }
-        Answer::Refused(_) => at,
+        Err(_) => at,
     }
 }

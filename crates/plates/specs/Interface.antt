@@ -1,12 +1,17 @@
 -- What the C interface gives: the numbers that are returned and written, and what is left in the memory that was lent.
 use Rattle.std.specs.Prelude.{ℕ, ◌≡◌, List, length, get_or}
 use Rattle.choice.specs.Answer as choose
+use Rattle.choice.specs.declared.answer.Figures.{Figures as ChoiceFigures}
 use Rattle.quick.specs.Answer as quick
+use Rattle.quick.specs.declared.answer.Figures.{Figures as QuickFigures}
 use Rattle.reading.specs.Answer as read
+use Rattle.reading.specs.declared.answer.Figures.{Figures as ReadingFigures}
 use Rattle.writing.specs.Answer as write
+use Rattle.writing.specs.declared.answer.Figures.{Figures as WritingFigures}
 use Rattle.refusals.specs.Refusals.{Ruling, ruling}
 use Rattle.refusals.specs.Reply.{Reply}
 use Rattle.sheet.specs.Answer as sheet
+use Rattle.sheet.specs.declared.answer.Figures.{Figures as SheetFigures}
 use Rattle.view.specs.Answer as view
 
 -- what a function gives with its `answer`: that has so many numbers and no more, the first of them is given, and they answer the
@@ -21,7 +26,7 @@ abbrev pub reply_in : {Figures : Type 0} → List ℕ → Figures → Reply Figu
 reply_in answer figures = record { number = get_or answer 0 0; place = get_or answer 1 0; figures = figures }
 
 -- the six numbers of choosing
-abbrev pub chosen_in : List ℕ → Reply choose.Figures
+abbrev pub chosen_in : List ℕ → Reply ChoiceFigures
 chosen_in answer =
     reply_in answer
     (record { diversity = get_or answer 2 0; cost = get_or answer 3 0; taxa = get_or answer 4 0; spare = get_or answer 5 0 })
@@ -31,7 +36,7 @@ abbrev pub Chosen : choose.Call → ℕ → List ℕ → List ℕ → List ℕ �
 Chosen c number answer marks curve work = Given 6 chosen_in (λ r. choose.Answered c r marks curve work) number answer
 
 -- the five numbers of a quick choice, with the ceiling that is written beside them
-abbrev pub quickly_chosen_in : ℕ → List ℕ → Reply quick.Figures
+abbrev pub quickly_chosen_in : ℕ → List ℕ → Reply QuickFigures
 quickly_chosen_in ceiling answer = reply_in answer (quick.reported (get_or answer 2 0) (get_or answer 3 0) (get_or answer 4 0) ceiling)
 
 -- a call is answered by them as `quick` answers it
@@ -39,7 +44,7 @@ abbrev pub QuicklyChosen : quick.Call → ℕ → List ℕ → ℕ → List ℕ 
 QuicklyChosen c number answer ceiling marks = Given 5 (quickly_chosen_in ceiling) (λ r. quick.Answered c r marks) number answer
 
 -- the five numbers of a sheet
-abbrev pub listed_in : List ℕ → Reply sheet.Figures
+abbrev pub listed_in : List ℕ → Reply SheetFigures
 listed_in answer = reply_in answer (sheet.sums (get_or answer 2 0) (get_or answer 3 0) (get_or answer 4 0))
 
 -- a call is answered by them as `sheet` answers it
@@ -47,7 +52,7 @@ abbrev pub SheetListed : sheet.Call → ℕ → List ℕ → List ℕ → Type 0
 SheetListed c number answer lent = Given 5 listed_in (λ r. sheet.Answered c r lent) number answer
 
 -- the three numbers of reading
-abbrev pub read_in : List ℕ → Reply read.Figures
+abbrev pub read_in : List ℕ → Reply ReadingFigures
 read_in answer = reply_in answer (read.counted (get_or answer 2 0))
 
 -- a call is answered by them as `read` answers it
@@ -55,7 +60,7 @@ abbrev pub TextRead : read.Call → ℕ → List ℕ → List ℕ → Type 0
 TextRead c number answer outline = Given 3 read_in (λ r. read.Answered c r outline) number answer
 
 -- the four numbers of writing
-abbrev pub written_in : List ℕ → Reply write.Figures
+abbrev pub written_in : List ℕ → Reply WritingFigures
 written_in answer = reply_in answer (write.counts (get_or answer 2 0) (get_or answer 3 0))
 
 -- a call is answered by them as `write` answers it

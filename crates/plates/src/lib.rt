@@ -75,7 +75,7 @@ pub extern "C" fn plates_choose(
             *answer = [0, 0, diversity, cost, taxa, spare];
             0
         }
-        Answer::Refused(refusal) => {
+        Err(refusal) => {
             let number = number_of(refusal);
             *answer = [number, place_of(refusal) as u32, 0, 0, 0, 0];
             number

@@ -1,4 +1,5 @@
 -- What a call keeps that no row of the table refuses, and the two ways to answer it.
+use Rattle.std.specs.Prelude.{Ok, Err}
 use Prim.Native.Nat.{ℕ, ◌≤◌}
 use mathlib.Core.Path.{◌≡◌, sym, ap, ◌∙◌}
 use mathlib.Core.Bool.{false}
@@ -10,8 +11,7 @@ use lib.Seq.{length-take-le}
 use borrow.Author.Tests.{ltb-false}
 use Rattle.lists.specs.Lists.{over}
 use Rattle.refusals.specs.Refusals.{refusal, row}
-use Rattle.refusals.specs.Reply.{Reply}
-use Rattle.refusals.specs.declared.verdict.Refusal.{Refusal}
+use Rattle.refusals.specs.declared.refusal.Refusal.{Refusal}
 use Rattle.refusals.proofs.Refusals.{both_pass, row_fails, refusal_not_zero}
 use Rattle.outline.specs.Outline.{size}
 use Rattle.outline.specs.Answer.{size_rows, record_rows}
@@ -25,9 +25,8 @@ use Rattle.measures.specs.Measures.{Measured}
 use Rattle.measures.specs.declared.figures.Measure.{Measure}
 use Rattle.quick.specs.Quick.{after_picks, quick, ceiling}
 use Rattle.choice.specs.Answer.{most_count}
-use Rattle.quick.specs.Answer.{Call, most_picks, Figures, Answered, told, judged, quick_set, figures_of, reply, marks_after}
+use Rattle.quick.specs.Answer.{Call, most_picks, Figures, reported, Answered, told, judged, quick_set, figures_of, reply, marks_after}
 use Rattle.quick.specs.Inner.{Parents, HasParents, HeldIn, HasHeld, PicksFit, PicksDone, Fillable, Filled}
-use Rattle.quick.specs.declared.answer.Answer.{Answer}
 use Rattle.quick.proofs.Picking.{Good, locked_good, quick_picking}
 
 -- ---- marking and measuring
@@ -58,9 +57,9 @@ unfolding quick
 picks_quick {o} {b} {k} e d = d.set_is ∙ ap (after_picks o b k) e
 
 pub measured_filled : {o : List ℕ} {b k : ℕ} {s : List ℕ} {m : Measure} {v : ℕ} → s ≡ quick o b k → Measured o s 0 m → v ≡ ceiling o b s
-    → Filled o b k (told (Answer.Chosen m.diversity m.cost m.taxa v)) s
+    → Filled o b k (reported m.diversity m.cost m.taxa v) s
 unfolding figures_of
-measured_filled e m v = record { told_granted = rw (m.diversity_is, m.cost_is, m.taxa_is, v, e); marks_are = e }
+measured_filled e m v = record { told_figures = rw (m.diversity_is, m.cost_is, m.taxa_is, v, e); marks_are = e }
 
 -- ---- the rows
 module _ (c : Call) where
@@ -107,12 +106,12 @@ module _ (c : Call) where
     quick_good = (quick_picking c.outline c.count locked_fit c.picks).good
 
     -- a choice
-    pub filled_answered : {r : Reply Figures} {s : List ℕ} → Filled c.outline c.count c.picks r s → Answered c r (s ++ drop (size c.outline) c.marks)
+    pub filled_answered : {f : Figures} {s : List ℕ} → Filled c.outline c.count c.picks f s → Answered c (told (Ok f)) (s ++ drop (size c.outline) c.marks)
     unfolding reply marks_after over
-    filled_answered f = record { told_reply = rw z f.told_granted; marks_written = rw (z, f.marks_are, quick_good.0.whole) }
+    filled_answered f = record { told_reply = rw (z, f.told_figures); marks_written = rw (z, f.marks_are, quick_good.0.whole) }
 
   -- a refusal
-  pub refused_answered : (e : Refusal) → refusal e ≡ judged c → Answered c (told (Answer.Refused e)) c.marks
+  pub refused_answered : (e : Refusal) → refusal e ≡ judged c → Answered c (told (Err e)) c.marks
   unfolding reply marks_after
   refused_answered e h =
       let number : eqb (judged c).number 0 ≡ false = rw (← h) (refusal_not_zero e) in

@@ -1,4 +1,5 @@
 -- What is promised of every call of `quick`: what its contract says of the answer and the marks is what the words ask.
+use Rattle.std.specs.Prelude.{Result}
 use Prim.Native.Nat.{ℕ, ◌≤◌}
 use mathlib.Core.Path.{◌≡◌, refl, sym, ap, ap₂, ◌∙◌}
 use mathlib.Core.Bool.{true}
@@ -8,9 +9,10 @@ use lib.ListN.{length}
 use lib.Seq.{take_at}
 use borrow.Author.Tests.{ne_eqb}
 use Rattle.lists.specs.Lists.{over}
+use Rattle.refusals.specs.declared.refusal.Refusal.{Refusal}
 use Rattle.refusals.specs.Reply.{Reply, granted}
 use Rattle.refusals.specs.Table.{Gives}
-use Rattle.refusals.proofs.Replies.{told_passed, decided, granted_apart, refused_determined}
+use Rattle.refusals.proofs.Replies.{told_passed, decided, answer_determined}
 use Rattle.refusals.proofs.Tests.{decides_less}
 use Rattle.refusals.proofs.Tables.{gives_then, gives_whole}
 use Rattle.outline.specs.Outline.{size, locked, IsRecord}
@@ -21,28 +23,18 @@ use Rattle.laws.specs.Locks.{locked_set}
 use Rattle.laws.proofs.Locks.{held_each, locked_taxa}
 use Rattle.laws.proofs.Optimum.{greatest_diversity}
 use Rattle.choice.specs.Answer as choose
+use Rattle.choice.specs.declared.answer.Figures.{Figures as ChoiceFigures}
 use Rattle.choice.proofs.Demands.{none_decided, demand_3}
 use Rattle.quick.specs.Quick.{quick}
-use Rattle.quick.specs.Answer.{Call, Figures, Answered, reported, numbers_of, told, most_picks, judged, quick_set, figures_of, reply, marks_after}
+use Rattle.quick.specs.Answer.{Call, Figures, no_figures, Answered, reported, numbers_of, told, most_picks, judged, quick_set, figures_of, reply, marks_after}
 use Rattle.quick.specs.Demands.{quick_table, ChosenOrRefused, marked_set, TrueChoice, PicksMade, SameChoice, BestBetween, MorePicks}
-use Rattle.quick.specs.declared.answer.Answer.{Answer}
 use Rattle.quick.proofs.Answers.{outline_formed, locked_fit, quick_good}
 use Rattle.quick.proofs.Picking.{Picking, quick_picking, quick_rises}
 use Rattle.quick.proofs.Submodular.{ceiling_most}
 
 -- the numbers told determine the answer
-pub told_determined : (a b : Answer) → told a ≡ told b → a ≡ b
-told_determined (Answer.Chosen d k t e) (Answer.Chosen f l u g) h =
-    let same : reported d k t e ≡ reported f l u g = ap (λ (r : Reply Figures). r.figures) h in
-    rw (
-      ap (λ (x : Figures). x.diversity) same,
-      ap (λ (x : Figures). x.cost) same,
-      ap (λ (x : Figures). x.taxa) same,
-      ap (λ (x : Figures). x.ceiling) same,
-    )
-told_determined (Answer.Chosen d k t e) (Answer.Refused f) h = absurd (granted_apart f h)
-told_determined (Answer.Refused d) (Answer.Chosen f l u g) h = absurd (granted_apart d (sym h))
-told_determined (Answer.Refused d) (Answer.Refused e) h = ap Answer.Refused (refused_determined d e h)
+pub told_determined : (a b : Result Figures Refusal) → told a ≡ told b → a ≡ b
+told_determined = answer_determined no_figures
 
 module _ (c : Call) where
   -- what a call is judged is what its table gives
@@ -57,7 +49,7 @@ module _ (c : Call) where
       (gives_whole 11 (none_decided c.outline 0 c.count))))))
 
 -- a call of `choose` is told the best diversity of the exhaustive search
-best_told : (d : choose.Call) {best : Reply choose.Figures} {marks curve work : List ℕ} → choose.Answered d best marks curve work → best.number ≡ 0
+best_told : (d : choose.Call) {best : Reply ChoiceFigures} {marks curve work : List ℕ} → choose.Answered d best marks curve work → best.number ≡ 0
     → best.figures.diversity ≡ best_diversity d.outline d.way d.count
 best_told d y e = let f = demand_3 d y e in f.diversity_is_shown ∙ (f.columns d.count (omega arith)).searched.0
 
@@ -114,7 +106,7 @@ module _ (c : Call) {r : Reply Figures} {marks : List ℕ} (x : Answered c r mar
         made = quick_picking c.outline c.count (locked_fit c passes) c.picks
 
     -- the best diversity, as a call of `choose` is told it, is never below the choice's and never above its ceiling
-    pub best_between : (d : choose.Call) → SameChoice c d → {best : Reply choose.Figures} {marks' curve work : List ℕ}
+    pub best_between : (d : choose.Call) → SameChoice c d → {best : Reply ChoiceFigures} {marks' curve work : List ℕ}
         → choose.Answered d best marks' curve work → best.number ≡ 0 → BestBetween r best
     best_between d same {best} y e =
         let o = c.outline in

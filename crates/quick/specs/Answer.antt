@@ -1,14 +1,15 @@
 -- What a call of `quick` is answered, and what it leaves in the marks that it was lent.
-use Rattle.std.specs.Prelude.{ℕ, ◌≡◌, List, [], ◌∷◌, length, ltb}
-use Rattle.refusals.specs.Refusals.{Ruling, refusal, row, ◌▸◌, after}
-use Rattle.refusals.specs.Reply.{Reply, granted, refused, replied}
+use Rattle.std.specs.Prelude.{Result, ℕ, ◌≡◌, List, [], ◌∷◌, length, ltb}
+use Rattle.refusals.specs.Refusals.{Ruling, row, ◌▸◌, after}
+use Rattle.refusals.specs.declared.refusal.Refusal.{Refusal}
+use Rattle.refusals.specs.Reply.{Reply, answer_told, replied}
 use Rattle.outline.specs.Outline.{size}
 use Rattle.outline.specs.Answer.{size_rows, record_rows}
 use Rattle.diversity.specs.Diversity.{diversity, cost, chosen_taxa}
 use Rattle.diversity.specs.Search.{none_fits}
 use Rattle.choice.specs.Answer.{most_count}
 use Rattle.quick.specs.Quick.{quick, ceiling}
-use Rattle.quick.specs.declared.answer.Answer.{Answer}
+pub use Rattle.quick.specs.declared.answer.Figures.{Figures}
 
 -- a call: the outline, the page count, at most how many picks, and the lent marks as they came in
 pub record Call : Type 0 where
@@ -19,13 +20,6 @@ pub record Call : Type 0 where
 
 abbrev pub call : List ℕ → ℕ → ℕ → List ℕ → Call
 call outline count picks marks = record { outline = outline; count = count; picks = picks; marks = marks }
-
--- what a quick choice tells: diversity, cost, number of taxa, and the ceiling
-pub record Figures : Type 0 where
-  pub diversity : ℕ
-  pub cost : ℕ
-  pub taxa : ℕ
-  pub ceiling : ℕ
 
 abbrev pub reported : ℕ → ℕ → ℕ → ℕ → Figures
 reported diversity cost taxa ceiling = record { diversity = diversity; cost = cost; taxa = taxa; ceiling = ceiling }
@@ -38,9 +32,8 @@ abbrev pub numbers_of : Figures → List ℕ
 numbers_of f = f.diversity ∷ f.cost ∷ f.taxa ∷ f.ceiling ∷ []
 
 -- the numbers of each answer
-abbrev pub told : Answer → Reply Figures
-told (Answer.Chosen d c t e) = granted (reported d c t e)
-told (Answer.Refused e) = refused no_figures (refusal e)
+abbrev pub told : Result Figures Refusal → Reply Figures
+told = answer_told no_figures
 
 -- picks go up to this
 abbrev pub most_picks : ℕ

@@ -8,6 +8,7 @@ use Rattle.diversity.specs.Diversity.{diversity, cost, chosen_taxa}
 use Rattle.diversity.specs.Behind.{IsSet, Fits, NoneFits}
 use Rattle.laws.specs.Locks.{locks}
 use Rattle.choice.specs.Answer as choose
+use Rattle.choice.specs.declared.answer.Figures.{Figures as ChoiceFigures}
 use Rattle.quick.specs.Quick.{added, added_cost, can_pick, ceiling}
 use Rattle.quick.specs.Answer.{Call, Figures, numbers_of, most_picks}
 
@@ -66,7 +67,7 @@ pub record SameChoice (c : Call) (d : choose.Call) : Type 0 where
   pub rooted : d.way ≡ 0
 
 -- the best diversity lies from the quick choice's to its ceiling
-pub record BestBetween (r : Reply Figures) (best : Reply choose.Figures) : Type 0 where
+pub record BestBetween (r : Reply Figures) (best : Reply ChoiceFigures) : Type 0 where
   pub least : r.figures.diversity ≤ best.figures.diversity
   pub most : best.figures.diversity ≤ r.figures.ceiling
 

@@ -1,7 +1,6 @@
 -- What the functions behind `quick` speak of: the way up from each record, the records that a set holds, what the others would add, and picks.
 use Rattle.std.specs.Prelude.{if◌then◌else◌, ℕ, ◌+◌, ◌≤◌, ◌<◌, ◌^◌, ◌≡◌, ◌⊎◌, Bool, ◌||◌, ◌&&◌, not, List, length, get_or, set, replicate, eqb, ltb, leb}
 use Rattle.lists.specs.Lists.{one}
-use Rattle.refusals.specs.Reply.{Reply, granted}
 use Rattle.outline.specs.Inner.{numbers}
 use Rattle.outline.specs.Outline.{size, branch, price, is_taxon, IsRecord}
 use Rattle.outline.specs.WellFormed.{WellFormed}
@@ -177,6 +176,6 @@ pub record Fillable (o : List ℕ) (b : ℕ) (marks : List ℕ) : Type 0 where
   pub locked_fit : cost o (locked_set o) ≤ b
 
 -- what marking and measuring the choice gives
-pub record Filled (o : List ℕ) (b k : ℕ) (r : Reply Figures) (marks : List ℕ) : Type 0 where
-  pub told_granted : r ≡ granted (figures_of o b (quick o b k))
+pub record Filled (o : List ℕ) (b k : ℕ) (told : Figures) (marks : List ℕ) : Type 0 where
+  pub told_figures : told ≡ figures_of o b (quick o b k)
   pub marks_are : marks ≡ quick o b k

@@ -1,13 +1,10 @@
-// What a quick choice answers.
-use refusals::verdict::Refusal;
+// What a quick choice tells.
 
-#[derive(Drop)]
-pub enum Answer {
-    Chosen {
-        diversity: u32,
-        cost: u32,
-        taxa: u32,
-        ceiling: u64,
-    },
-    Refused(Refusal),
+// The diversity, cost and number of taxa of the marked set, and its ceiling.
+#[derive(Clone, Copy, Debug, PartialEq, Eq)]
+pub struct Figures {
+    pub diversity: u32,
+    pub cost: u32,
+    pub taxa: u32,
+    pub ceiling: u64,
 }

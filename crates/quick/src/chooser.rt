@@ -2,25 +2,25 @@
 ghost use Rattle.quick.specs.Answer.{call, told, Answered};
 ghost use Rattle.quick.specs.Inner.{Fillable, Filled};
 
-use super::answer::Answer;
+use super::answer::Figures;
 use super::ceiling::ceiling_of;
 use super::judge::judge;
 use super::picks::make_picks;
 use super::ways::{held_of, parents_of};
 use measures::{mark_locked, measure};
-use refusals::verdict::Verdict;
+use refusals::Refusal;
 
 // Marks the choice, and measures it.
-fn fill(o: &[u8], count: u32, picks: u32, marks: &mut [u8]) -> Answer
+fn fill(o: &[u8], count: u32, picks: u32, marks: &mut [u8]) -> Figures
     requires { Fillable o.now count marks.old }
-    ensures { Filled o.now count picks (told result) marks.new }
+    ensures { Filled o.now count picks result marks.new }
 {
     mark_locked(o, marks);
     let parents = parents_of(o);
     let mut held = held_of(o, marks, &parents);
     make_picks(o, &parents, count, picks, marks, &mut held);
     let set = measure(o, marks, 0);
-    Answer::Chosen {
+    Figures {
         diversity: set.diversity,
         cost: set.cost,
         taxa: set.taxa,
@@ -31,14 +31,10 @@ fn fill(o: &[u8], count: u32, picks: u32, marks: &mut [u8]) -> Answer
 // Marks the locked taxa and at most so many picks: each the taxon of the greatest added diversity, of those that still fit the page count
 // with their headings, then of the fewest added quarters, then of the lowest record. Answers with the set's measures and its ceiling; or
 // refuses by the first row that holds.
-pub fn quick(outline: &[u8], count: u32, picks: u32, marks: &mut [u8]) -> Answer
+pub fn quick(outline: &[u8], count: u32, picks: u32, marks: &mut [u8]) -> Result<Figures, Refusal>
     ensures { Answered (call outline.now count picks marks.old) (told result) marks.new }
 {
-    match judge(outline, count, picks, marks) {
-        Verdict::Refused(refusal) => Answer::Refused(refusal),
-        Verdict::Accepted => {
-            let n = outline.len() / 16;
-            fill(outline, count, picks, &mut marks[..n])
-        }
-    }
+    judge(outline, count, picks, marks)?;
+    let n = outline.len() / 16;
+    Ok(fill(outline, count, picks, &mut marks[..n]))
 }

@@ -6,33 +6,27 @@ ghost use Rattle.quick.specs.Answer.{call, judged};
 use choice::MOST_COUNT;
 use measures::locked_cost;
 use outline::checker::{check_records, check_size};
-use refusals::verdict::{Refusal, Verdict};
+use refusals::Refusal;
 
 pub const MOST_PICKS: u32 = 64;
 
 // The first row that holds.
-pub fn judge(outline: &[u8], count: u32, picks: u32, marks: &[u8]) -> Verdict
+pub fn judge(outline: &[u8], count: u32, picks: u32, marks: &[u8]) -> Result<(), Refusal>
     ensures { told result ≡ judged (call outline.now count picks marks.now) }
 {
-    let size = check_size(outline);
-    if let Verdict::Refused(_) = size {
-        return size;
-    }
+    check_size(outline)?;
     if MOST_COUNT < count {
-        return Verdict::Refused(Refusal::CountTooLarge);
+        return Err(Refusal::CountTooLarge);
     }
     if MOST_PICKS < picks {
-        return Verdict::Refused(Refusal::TooManyPicks);
+        return Err(Refusal::TooManyPicks);
     }
-    let records = check_records(outline);
-    if let Verdict::Refused(_) = records {
-        return records;
-    }
+    check_records(outline)?;
     if marks.len() < outline.len() / 16 {
-        return Verdict::Refused(Refusal::BufferTooShort);
+        return Err(Refusal::BufferTooShort);
     }
     if count < locked_cost(outline) {
-        return Verdict::Refused(Refusal::LockedTooDear);
+        return Err(Refusal::LockedTooDear);
     }
-    Verdict::Accepted
+    Ok(())
 }

@@ -2,7 +2,7 @@
 // diversity is never above. Nothing is asked of the caller.
 #![tactic(auto)]
 
-pub mod answer;
+mod answer;
 mod ceiling;
 mod chooser;
 mod judge;
@@ -11,5 +11,5 @@ mod picks;
 mod sums;
 mod ways;
 
-pub use answer::Answer;
+pub use answer::Figures;
 pub use chooser::quick;

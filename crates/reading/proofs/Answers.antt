@@ -1,4 +1,5 @@
 -- What a call is answered, row by row.
+use Rattle.std.specs.Prelude.{Ok, Err}
 use Prim.Native.Nat.{ℕ, ◌*◌, ◌≤◌, ◌<◌}
 use mathlib.Core.Path.{◌≡◌, refl, sym, ap, subst, ◌∙◌}
 use mathlib.Core.Bool.{true, false, false≢true}
@@ -9,10 +10,9 @@ use lib.ListN.{length, take, drop}
 use lib.Seq.{take_at}
 use borrow.Author.Tests.{lt-ltb, le-ltb}
 use Rattle.lists.specs.Lists.{over, over_at}
-use Rattle.refusals.specs.Refusals.{Ruling, passed, refusal, told as told_verdict, after}
+use Rattle.refusals.specs.Refusals.{Ruling, passed, refusal, after}
 use Rattle.refusals.specs.Reply.{Reply}
-use Rattle.refusals.specs.declared.verdict.Refusal.{Refusal}
-use Rattle.refusals.specs.declared.verdict.Verdict.{Verdict}
+use Rattle.refusals.specs.declared.refusal.Refusal.{Refusal}
 use Rattle.refusals.proofs.Refusals.{refusal_not_zero}
 use Rattle.outline.specs.Outline.{size}
 use Rattle.outline.specs.Answer.{record_rows}
@@ -21,10 +21,9 @@ use Rattle.newick.specs.Layout.{count, layout}
 use Rattle.newick.specs.Pairs.{price_in, bad_pairs}
 use Rattle.newick.specs.Parsing.{Parsed, unread, tree, grown, parsed}
 use Rattle.reading.specs.Scan.{is_tree}
-use Rattle.reading.specs.Answer.{call, Figures, told, rows_for, judged, reply, outline_after, Answered}
+use Rattle.reading.specs.Answer.{call, Figures, counted, told, rows_for, judged, reply, outline_after, Answered}
 use Rattle.newick.specs.Inner.{plates_of}
 use Rattle.reading.specs.Inner.{TreeRead, tree_bad, tree_many, tree_read, place_rows, TreePlaced}
-use Rattle.reading.specs.declared.answer.Answer.{Answer}
 use Rattle.reading.specs.declared.reader.Draft.{Draft}
 use Rattle.newick.proofs.Regrown.{layout_plates}
 use Rattle.newick.proofs.Ranges.{spells_in_range}
@@ -34,16 +33,16 @@ use Rattle.outline.specs.Rules.{most_records}
 
 -- ---- rows 11, 9 and 5 to 8, for a drafted outline
 module _ (o pairs outline : List ℕ) where
-  place_refused : (e : Refusal) → refusal e ≡ place_rows o pairs (length outline) → TreePlaced o pairs outline (told (Answer.Refused e)) outline
+  place_refused : (e : Refusal) → refusal e ≡ place_rows o pairs (length outline) → TreePlaced o pairs outline (told (Err e)) outline
   place_refused e h =
       let f : eqb (place_rows o pairs (length outline)).number 0 ≡ false = sym (ap (λ (t : Ruling). eqb t.number 0) h) ∙ refusal_not_zero e in
       record { told_placed = rw (f, ← h); outline_placed = rw f }
 
-  pub placed_bad : bad_pairs (plates_of o) pairs ≡ true → TreePlaced o pairs outline (told (Answer.Refused Refusal.BadPairs)) outline
+  pub placed_bad : bad_pairs (plates_of o) pairs ≡ true → TreePlaced o pairs outline (told (Err Refusal.BadPairs)) outline
   placed_bad e = place_refused Refusal.BadPairs (unfold place_rows in rw e)
 
   module _ (e : bad_pairs (plates_of o) pairs ≡ false) where
-    pub placed_short : length outline < length o → TreePlaced o pairs outline (told (Answer.Refused Refusal.BufferTooShort)) outline
+    pub placed_short : length outline < length o → TreePlaced o pairs outline (told (Err Refusal.BufferTooShort)) outline
     placed_short h = place_refused Refusal.BufferTooShort (unfold place_rows in rw (e, lt-ltb (length outline) (length o) h))
 
     module _ (h : length o ≤ length outline) where
@@ -51,14 +50,12 @@ module _ (o pairs outline : List ℕ) where
       unfolding place_rows
       rest = rw (e, le-ltb (length outline) (length o) h)
 
-      pub placed_refused : {v : Verdict} (r : Refusal) → told_verdict v ≡ record_rows o → v ≡ Verdict.Refused r
-          → TreePlaced o pairs outline (told (Answer.Refused r)) outline
-      placed_refused r f is = place_refused r (sym (ap told_verdict is) ∙ f ∙ sym rest)
+      pub placed_refused : (r : Refusal) → refusal r ≡ record_rows o → TreePlaced o pairs outline (told (Err r)) outline
+      placed_refused r f = place_refused r (f ∙ sym rest)
 
-      pub placed_read : {v : Verdict} {left : List ℕ} → told_verdict v ≡ record_rows o → v ≡ Verdict.Accepted → left ≡ over o outline
-          → TreePlaced o pairs outline (told (Answer.Read (size o))) left
-      placed_read f is d =
-          let t : passed ≡ place_rows o pairs (length outline) = sym (ap told_verdict is) ∙ f ∙ sym rest in
+      pub placed_read : {left : List ℕ} → passed ≡ record_rows o → left ≡ over o outline → TreePlaced o pairs outline (told (Ok (counted (size o)))) left
+      placed_read f d =
+          let t : passed ≡ place_rows o pairs (length outline) = f ∙ sym rest in
           record { told_placed = rw (← t); outline_placed = rw (← t) d }
 
 -- ---- the tree of a text, and its outline
@@ -105,37 +102,37 @@ begins pairs draft after n t c d =
 module _ (text pairs outline : List ℕ) where
   -- a refusal leaves the outline as it was
   refuses : (e : Refusal) → rows_for (parsed text) pairs (length outline) ≡ refusal e
-      → Answered (call text pairs outline) (told (Answer.Refused e)) outline
+      → Answered (call text pairs outline) (told (Err e)) outline
   unfolding judged reply outline_after
   refuses e h =
       let f : eqb (rows_for (parsed text) pairs (length outline)).number 0 ≡ false = ap (λ (t : Ruling). eqb t.number 0) h ∙ refusal_not_zero e in
       record { told_reply = rw (f, h); outline_written = rw f }
 
-  unread_answered : parsed text ≡ unread → Answered (call text pairs outline) (told (Answer.Refused Refusal.BadText)) outline
+  unread_answered : parsed text ≡ unread → Answered (call text pairs outline) (told (Err Refusal.BadText)) outline
   unfolding rows_for
   unread_answered e = refuses Refusal.BadText (rw e)
 
-  pub long_answered : most_bytes < length text → Answered (call text pairs outline) (told (Answer.Refused Refusal.BadText)) outline
+  pub long_answered : most_bytes < length text → Answered (call text pairs outline) (told (Err Refusal.BadText)) outline
   long_answered h = unread_answered (parsed_long text h)
 
   module _ (h : length text ≤ most_bytes) where
     pub bad_answered : {draft after : List ℕ} → TreeRead pairs text draft after Draft.Bad
-        → Answered (call text pairs outline) (told (Answer.Refused Refusal.BadText)) outline
+        → Answered (call text pairs outline) (told (Err Refusal.BadText)) outline
     bad_answered (tree_bad e) = unread_answered (parsed_short text h ∙ e)
 
     -- more records than 127 begin: a tree of too many, or none
     pub many_answered : {draft after : List ℕ} → TreeRead pairs text draft after Draft.Many → true ≡ is_tree (grown text)
-        → Answered (call text pairs outline) (told (Answer.Refused Refusal.TooManyRecords)) outline
+        → Answered (call text pairs outline) (told (Err Refusal.TooManyRecords)) outline
     many_answered (tree_many g) f = go (grown text) refl f
       where
-        go : (p : Parsed) → grown text ≡ p → true ≡ is_tree p → Answered (call text pairs outline) (told (Answer.Refused Refusal.TooManyRecords)) outline
+        go : (p : Parsed) → grown text ≡ p → true ≡ is_tree p → Answered (call text pairs outline) (told (Err Refusal.TooManyRecords)) outline
         go unread e f = absurd (false≢true (sym f))
         go (tree t) e f = refuses Refusal.TooManyRecords (rw (parsed_short text h, e) (rows_thick t pairs (length outline) (g t e)))
 
-    pub none_answered : false ≡ is_tree (grown text) → Answered (call text pairs outline) (told (Answer.Refused Refusal.BadText)) outline
+    pub none_answered : false ≡ is_tree (grown text) → Answered (call text pairs outline) (told (Err Refusal.BadText)) outline
     none_answered f = go (grown text) refl f
       where
-        go : (p : Parsed) → grown text ≡ p → false ≡ is_tree p → Answered (call text pairs outline) (told (Answer.Refused Refusal.BadText)) outline
+        go : (p : Parsed) → grown text ≡ p → false ≡ is_tree p → Answered (call text pairs outline) (told (Err Refusal.BadText)) outline
         go unread e f = unread_answered (parsed_short text h ∙ e)
         go (tree t) e f = absurd (false≢true f)
 

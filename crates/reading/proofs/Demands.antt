@@ -1,4 +1,5 @@
 -- What is promised of every call: what the contract of `read` says of the answer and the outline is what the words ask.
+use Rattle.std.specs.Prelude.{Result}
 use Prim.Native.Nat.{ℕ, suc, ◌*◌, ◌≤◌}
 use mathlib.Core.Path.{◌≡◌, refl, sym, ap, subst, ◌∙◌}
 use mathlib.Core.Logic.{◌↔◌}
@@ -11,10 +12,11 @@ use borrow.Author.Tests.{ne_eqb, ltb-true, ltb-false}
 use Rattle.lists.specs.Lists.{over}
 use Rattle.lists.proofs.Buffers.{over_taken, over_past}
 use Rattle.refusals.specs.Refusals.{Ruling, passed, row, row_at}
+use Rattle.refusals.specs.declared.refusal.Refusal.{Refusal}
 use Rattle.refusals.specs.Reply.{Reply, ruling_of}
 use Rattle.refusals.specs.Table.{LowestAt, Row, Decided, lowest_at, FirstRow, here, later, end, fails, Gives, gives_none, gives_first}
 use Rattle.refusals.proofs.Refusals.{both_pass, row_fails}
-use Rattle.refusals.proofs.Replies.{told_passed, decided, granted_apart, refused_determined}
+use Rattle.refusals.proofs.Replies.{told_passed, decided, answer_determined}
 use Rattle.refusals.proofs.Tests.{Decides, decides_less}
 use Rattle.refusals.proofs.Tables.{gives_then, gives_passed, gives_whole, gives_lowest}
 use Rattle.outline.specs.Outline.{size, price, plate}
@@ -27,9 +29,8 @@ use Rattle.newick.specs.Layout.{count, plates, layout}
 use Rattle.newick.specs.Pairs.{price_in, bad_pairs}
 use Rattle.newick.specs.Trees.{tree_of}
 use Rattle.newick.specs.Parsing.{Parsed, unread, tree, parsed}
-use Rattle.reading.specs.Answer.{Call, Figures, numbers_of, told, rows_for, judged, reply, outline_after, Answered, Numbers}
+use Rattle.reading.specs.Answer.{Call, Figures, no_figures, numbers_of, told, rows_for, judged, reply, outline_after, Answered, Numbers}
 use Rattle.reading.specs.Demands.{In, Pair, OfTree, lowest_of_tree, text_table, read_table, table_of, parsed_table, ReadOrRefused, ParsedOrRefused, TreeGiven, OwnPrices}
-use Rattle.reading.specs.declared.answer.Answer.{Answer}
 use Rattle.reading.proofs.Answers.{layout_length, layout_size}
 use Rattle.reading.proofs.Bounds.{layout_sized}
 use Rattle.reading.proofs.Links.{layout_linked}
@@ -39,11 +40,8 @@ use Rattle.newick.proofs.Ranges.{spells_in_range}
 use Rattle.newick.proofs.Spelling.{parsed_sound, parsed_complete, one_tree, unread_none}
 
 -- the numbers told determine the answer
-pub told_determined : (a b : Answer) → told a ≡ told b → a ≡ b
-told_determined (Answer.Read m) (Answer.Read n) h = ap Answer.Read (ap (λ (r : Reply Figures). r.figures.records) h)
-told_determined (Answer.Read m) (Answer.Refused e) h = absurd (granted_apart e h)
-told_determined (Answer.Refused d) (Answer.Read n) h = absurd (granted_apart d (sym h))
-told_determined (Answer.Refused d) (Answer.Refused e) h = ap Answer.Refused (refused_determined d e h)
+pub told_determined : (a b : Result Figures Refusal) → told a ≡ told b → a ≡ b
+told_determined = answer_determined no_figures
 
 -- ---- what a call is judged is what its table gives
 module _ (c : Call) where

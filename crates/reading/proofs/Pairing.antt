@@ -1,5 +1,5 @@
 -- Pairs of numbers gone through one by one, by the code and for the row that judges them.
-use Rattle.std.specs.Prelude.{if◌then◌else◌}
+use Rattle.std.specs.Prelude.{if◌then◌else◌, Option, is_some}
 use Prim.Native.Nat.{ℕ, ◌+◌, ◌%◌, ◌≤◌, ◌<◌}
 use mathlib.Core.Path.{◌≡◌, refl, sym, ap, subst, fun_ext, ◌∙◌}
 use mathlib.Core.Logic.Iff
@@ -11,10 +11,10 @@ use lib.Dec.{eqb}
 use lib.ListN.{length, get_or, drop, length-drop}
 use mir.Val.{bool_byte}
 use borrow.Author.Tests.{eqb-true, eqb-false, eq-eqb, ne_eqb}
-use Rattle.lists.specs.Lists.{one, from, anywhere, lowest}
+use Rattle.lists.specs.Lists.{one, from, anywhere, lowest, nonzero}
 use Rattle.lists.proofs.Bools.{byte_one, one_le, eqb_comm}
 use Rattle.lists.proofs.Pieces.{two_at}
-use Rattle.lists.proofs.Walk.{Seeking, seeking_finds, seeking_ends, anywhere_lowest}
+use Rattle.lists.proofs.Walk.{Seeking, seeking_finds, seeking_ends, anywhere_lowest, is_some_nonzero}
 use Rattle.refusals.proofs.Tests.{Decides, decides_equal, decides_not, decides_either}
 use Rattle.outline.specs.Outline.{size, records, plate, is_taxon}
 use Rattle.newick.specs.Pairs.{price_in, pairs_of, paired, bad_pairs}
@@ -105,13 +105,9 @@ abbrev pub Matched : List ℕ → List ℕ → ℕ → Type 0
 Matched o pairs i = Passing (λ xs. anywhere (unmatched o) (paired xs)) pairs i
 
 -- no taxon has a plate where none holds it
-holder_unmatched : (o : List ℕ) (q r : ℕ) → r ≡ lowest (has_plate o q) (from 1 (size o)) → unmatched o q ≡ eqb r 0
+holder_unmatched : (o : List ℕ) (q : ℕ) {r : Option ℕ} → r ≡ nonzero (lowest (has_plate o q) (from 1 (size o))) → unmatched o q ≡ not (is_some r)
 unfolding records
-holder_unmatched o q r f = rw (← anywhere_lowest (has_plate o q) (size o), ← f) (twice (eqb r 0))
-  where
-    twice : (b : Bool) → not (not b) ≡ b
-    twice true = refl
-    twice false = refl
+holder_unmatched o q f = rw (f, is_some_nonzero, anywhere_lowest)
 
 module _ (o : List ℕ) {pairs : List ℕ} {i : ℕ} (k : Matched o pairs i) where
   -- all pairs are passed; or the pair here has no taxon, or it has one
@@ -119,14 +115,14 @@ module _ (o : List ℕ) {pairs : List ℕ} {i : ℕ} (k : Matched o pairs i) whe
   unfolding anywhere paired
   matched_ends h = sym (k.whole ∙ few_left (λ xs. anywhere (unmatched o) (paired xs)) refl (λ q. refl) pairs i h)
 
-  module _ (h : i + 1 < length pairs) {r : ℕ} (f : r ≡ lowest (has_plate o (get_or pairs i 0)) (from 1 (size o))) where
-    pub matched_fails : r ≡ 0 → true ≡ anywhere (unmatched o) (paired pairs)
+  module _ (h : i + 1 < length pairs) {r : Option ℕ} (f : r ≡ nonzero (lowest (has_plate o (get_or pairs i 0)) (from 1 (size o)))) where
+    pub matched_fails : is_some r ≡ false → true ≡ anywhere (unmatched o) (paired pairs)
     unfolding anywhere paired
-    matched_fails z = sym (passing_here k h (rw (holder_unmatched o (get_or pairs i 0) r f, eq-eqb r 0 z)))
+    matched_fails z = sym (passing_here k h (rw (holder_unmatched o (get_or pairs i 0) f, z)))
 
-    pub matched_goes : (r ≡ 0 → ⊥) → Matched o pairs (i + 2)
+    pub matched_goes : is_some r ≡ true → Matched o pairs (i + 2)
     unfolding anywhere paired
-    matched_goes z = passing_goes k h (rw (holder_unmatched o (get_or pairs i 0) r f, ne_eqb r 0 z))
+    matched_goes z = passing_goes k h (rw (holder_unmatched o (get_or pairs i 0) f, z))
 
 -- ---- the row over the plates of the taxa
 

@@ -1,12 +1,13 @@
 -- What a call of `read` is answered, and what it leaves in the outline that it was lent.
-use Rattle.std.specs.Prelude.{ℕ, ◌*◌, ◌<◌, ◌≡◌, true, List, [], ◌∷◌, length, get_or, ltb}
-use Rattle.refusals.specs.Refusals.{Ruling, refusal, row, ◌▸◌, after}
-use Rattle.refusals.specs.Reply.{Reply, granted, refused, replied}
+use Rattle.std.specs.Prelude.{Result, ℕ, ◌*◌, ◌<◌, ◌≡◌, true, List, [], ◌∷◌, length, get_or, ltb}
+use Rattle.refusals.specs.Refusals.{Ruling, row, ◌▸◌, after}
+use Rattle.refusals.specs.declared.refusal.Refusal.{Refusal}
+use Rattle.refusals.specs.Reply.{Reply, answer_told, replied}
 use Rattle.outline.specs.Answer.{record_rows}
 use Rattle.newick.specs.Layout.{count, plates, layout}
 use Rattle.newick.specs.Pairs.{price_in, bad_pairs}
 use Rattle.newick.specs.Parsing.{Parsed, unread, tree, parsed}
-use Rattle.reading.specs.declared.answer.Answer.{Answer}
+pub use Rattle.reading.specs.declared.answer.Figures.{Figures}
 use Rattle.outline.specs.Rules.{most_records}
 
 -- a call: the text, the prices beside it, and the lent outline as it came in
@@ -17,10 +18,6 @@ pub record Call : Type 0 where
 
 abbrev pub call : List ℕ → List ℕ → List ℕ → Call
 call text pairs outline = record { text = text; pairs = pairs; outline = outline }
-
--- what a reading tells: N
-pub record Figures : Type 0 where
-  pub records : ℕ
 
 abbrev pub counted : ℕ → Figures
 counted n = record { records = n }
@@ -33,9 +30,8 @@ abbrev pub numbers_of : Figures → List ℕ
 numbers_of f = f.records ∷ []
 
 -- the numbers of each answer
-abbrev pub told : Answer → Reply Figures
-told (Answer.Read n) = granted (counted n)
-told (Answer.Refused e) = refused no_figures (refusal e)
+abbrev pub told : Result Figures Refusal → Reply Figures
+told = answer_told no_figures
 
 -- the rows for the tree of a text, the pairs and a buffer of so many bytes, in their order: 10, 3, 11, 9, then 5 to 8
 unfoldable pub rows_for : Parsed → List ℕ → ℕ → Ruling

@@ -1,8 +1,7 @@
-// What reading answers.
-use refusals::verdict::Refusal;
+// What reading tells.
 
-#[derive(Drop)]
-pub enum Answer {
-    Read { records: usize },
-    Refused(Refusal),
+// The number of records.
+#[derive(Clone, Copy, Debug, PartialEq, Eq)]
+pub struct Figures {
+    pub records: usize,
 }

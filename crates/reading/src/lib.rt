@@ -2,7 +2,7 @@
 // caller.
 #![tactic(auto)]
 
-pub mod answer;
+mod answer;
 mod cursor;
 mod pairs;
 mod part;
@@ -10,5 +10,5 @@ mod reader;
 mod record;
 mod scan;
 
-pub use answer::Answer;
+pub use answer::Figures;
 pub use reader::read;

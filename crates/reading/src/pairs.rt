@@ -69,7 +69,7 @@ fn any_unmatched(o: &[u8], pairs: &[u32]) -> bool
     let n = o.len() / 16;
     let mut i = 0;
     while i + 1 < pairs.len() {
-        if holder_of(o, pairs[i], n) == 0 {
+        if holder_of(o, pairs[i], n).is_none() {
             return true;
         }
         i += 2;

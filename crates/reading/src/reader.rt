@@ -4,14 +4,14 @@ ghost use Rattle.newick.specs.Grammar.{most_bytes};
 ghost use Rattle.reading.specs.Answer.{call, told, Answered, Numbers};
 ghost use Rattle.reading.specs.Inner.{draft_size, TreeRead, Whole, TreePlaced};
 
-use super::answer::Answer;
+use super::answer::Figures;
 use super::cursor::Cursor;
 use super::pairs::bad_pairs;
 use super::part::{Part, read_part};
 use super::record::{DRAFT, draft_record};
 use super::scan::{ends_at, is_tree};
 use outline::checker::check_records;
-use refusals::verdict::{Refusal, Verdict};
+use refusals::Refusal;
 use text::put_text;
 
 const MOST_BYTES: usize = 16384;
@@ -49,41 +49,37 @@ fn read_tree(text: &[u8], pairs: &[u32], draft: &mut [u8]) -> Draft
 }
 
 // Judges a drafted outline, and writes it where no row holds.
-fn place(o: &[u8], pairs: &[u32], outline: &mut [u8]) -> Answer
+fn place(o: &[u8], pairs: &[u32], outline: &mut [u8]) -> Result<Figures, Refusal>
     requires { Whole o.now }
     ensures { TreePlaced o.now pairs.now outline.old (told result) outline.new }
 {
     if bad_pairs(o, pairs) {
-        return Answer::Refused(Refusal::BadPairs);
+        return Err(Refusal::BadPairs);
     }
     if outline.len() < o.len() {
-        return Answer::Refused(Refusal::BufferTooShort);
+        return Err(Refusal::BufferTooShort);
     }
-    match check_records(o) {
-        Verdict::Refused(refusal) => Answer::Refused(refusal),
-        Verdict::Accepted => {
-            put_text(outline, 0, o);
-            Answer::Read {
-                records: o.len() / 16,
-            }
-        }
-    }
+    check_records(o)?;
+    put_text(outline, 0, o);
+    Ok(Figures {
+        records: o.len() / 16,
+    })
 }
 
 // Reads a text that is not too long.
-fn read_short(text: &[u8], pairs: &[u32], outline: &mut [u8]) -> Answer
+fn read_short(text: &[u8], pairs: &[u32], outline: &mut [u8]) -> Result<Figures, Refusal>
     requires { length text.now ≤ most_bytes }
     ensures { Answered (call text.now pairs.now outline.old) (told result) outline.new }
 {
     let mut draft = [0u8; DRAFT];
     match read_tree(text, pairs, &mut draft) {
-        Draft::Bad => Answer::Refused(Refusal::BadText),
+        Draft::Bad => Err(Refusal::BadText),
         Draft::Many => {
             // the readers stop there, since their calls nest; the rest of the text decides between 10 and 3
             if is_tree(text) {
-                return Answer::Refused(Refusal::TooManyRecords);
+                return Err(Refusal::TooManyRecords);
             }
-            Answer::Refused(Refusal::BadText)
+            Err(Refusal::BadText)
         }
         Draft::Read(records) => {
             let end = 16 * records;
@@ -93,12 +89,12 @@ fn read_short(text: &[u8], pairs: &[u32], outline: &mut [u8]) -> Answer
 }
 
 // Reads a text with its prices to an outline.
-pub fn read(text: &[u8], pairs: &[u32], outline: &mut [u8]) -> Answer
+pub fn read(text: &[u8], pairs: &[u32], outline: &mut [u8]) -> Result<Figures, Refusal>
     ensures answered { Answered (call text.now pairs.now outline.old) (told result) outline.new }
     ensures numbers { Numbers pairs.now }
 {
     if MOST_BYTES < text.len() {
-        return Answer::Refused(Refusal::BadText);
+        return Err(Refusal::BadText);
     }
     read_short(text, pairs, outline)
 }

@@ -1,5 +1,6 @@
 -- The numbers of refusals, and rows of a table of which none is given.
-use Rattle.std.specs.Prelude.{if◌then◌else◌, Option, Some, None, Result, Ok, Err}
+use Rattle.std.specs.Prelude.{if◌then◌else◌, Option, Some, None, Result, Ok, Err, IsErrAnd}
+use Rattle.std.proofs.lemmas.Result.{err_from_is_err_and}
 use Prim.Native.Nat.{ℕ, suc, ◌≤◌}
 use mathlib.Core.Path.{◌≡◌, refl, sym, ap, ◌∙◌}
 use mathlib.Core.Bool.{Bool, true, false}
@@ -82,6 +83,10 @@ told_determined (Err d) (Ok _) h =
     let z : (refusal d).number ≡ 0 = ap (λ (t : Ruling). t.number) h in
     absurd (omega (arith, refusal_numbered d))
 told_determined (Err d) (Err e) h = ap Err (refusal_determined d e h)
+
+-- what a `?` hands on is the error that it met
+pub handed_on : {T : Type 0} {e : Refusal} (r : Result T Refusal) → IsErrAnd r (λ d. d ≡ e) → r ≡ Err e
+handed_on r h = let p = err_from_is_err_and r h in rw p.2 at p.1
 
 -- where rows pass, each of them passes
 pub both_pass : (a b : Ruling) → (a ▸ b).number ≡ 0 → (a.number ≡ 0) × (b.number ≡ 0)

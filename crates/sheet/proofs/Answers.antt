@@ -1,4 +1,5 @@
 -- What a call keeps that no row of the table refuses, and the two ways to answer it.
+use Rattle.std.specs.Prelude.{Ok, Err}
 use Prim.Native.Nat.{ℕ, ◌-◌, ◌≤◌}
 use mathlib.Core.Path.{◌≡◌, refl, sym}
 use mathlib.Core.Logic.{◌⊎◌, inl, inr}
@@ -13,7 +14,7 @@ use Rattle.lists.specs.Lists.{over}
 use Rattle.lists.proofs.Bools.{both_false}
 use Rattle.lists.proofs.Walk.{lowest_none}
 use Rattle.refusals.specs.Refusals.{refusal, row_at}
-use Rattle.refusals.specs.declared.verdict.Refusal.{Refusal}
+use Rattle.refusals.specs.declared.refusal.Refusal.{Refusal}
 use Rattle.refusals.proofs.Tables.{two_ways}
 use Rattle.refusals.proofs.Refusals.{both_pass, row_fails, row_at_fails, refusal_not_zero}
 use Rattle.outline.specs.Outline.{size, is_taxon}
@@ -22,10 +23,9 @@ use Rattle.outline.proofs.WellFormed.{accepted_formed}
 use Rattle.diversity.specs.Behind.{MarkAt, IsSet}
 use Rattle.measures.specs.Measures.{Measured}
 use Rattle.measures.specs.declared.figures.Measure.{Measure}
-use Rattle.sheet.specs.Answer.{Call, Answered, bad_mark, marked_set, sheet_taken, judged, told, figures, reply, sheet_after}
+use Rattle.sheet.specs.Answer.{Call, sums, Answered, bad_mark, marked_set, sheet_taken, judged, told, figures, reply, sheet_after}
 use Rattle.sheet.specs.Inner.{Listable}
 use Rattle.sheet.specs.Sheet.{rows_of}
-use Rattle.sheet.specs.declared.answer.Answer.{Answer}
 use Rattle.sheet.proofs.Sums.{quarters_sum, diversity_sum}
 
 -- a mark that is not bad may stand at its record
@@ -87,7 +87,7 @@ module _ (c : Call) where
 
     -- a listing
     pub listed_answered : {m : Measure} {sheet : List ℕ} → sheet ≡ over (rows_of c.outline c.way (marked_set c)) c.sheet
-        → Measured c.outline (marked_set c) c.way m → Answered c (told (Answer.Listed m.taxa m.cost m.diversity)) sheet
+        → Measured c.outline (marked_set c) c.way m → Answered c (told (Ok (sums m.taxa m.cost m.diversity))) sheet
     unfolding reply figures sheet_after
     listed_answered w m =
         let quarters = quarters_sum c.outline (marked_set c) set_long in
@@ -95,7 +95,7 @@ module _ (c : Call) where
         record { told_reply = rw (z, quarters, diversities, m.taxa_is, m.cost_is, m.diversity_is); sheet_written = rw z w }
 
   -- a refusal
-  pub refused_answered : (e : Refusal) → refusal e ≡ judged c → Answered c (told (Answer.Refused e)) c.sheet
+  pub refused_answered : (e : Refusal) → refusal e ≡ judged c → Answered c (told (Err e)) c.sheet
   unfolding reply sheet_after
   refused_answered e h =
       let number : eqb (judged c).number 0 ≡ false = rw (← h) (refusal_not_zero e) in

@@ -1,4 +1,5 @@
 -- What is promised of every call of `sheet`: what its contract says of the answer and the sheet is what the words ask.
+use Rattle.std.specs.Prelude.{Result}
 use Prim.Native.Nat.{ℕ, zero, suc, ◌+◌, ◌*◌, ◌-◌, ◌≤◌, ◌<◌}
 use mathlib.Core.Path.{◌≡◌, refl, sym, ap, subst, ◌∙◌}
 use mathlib.Core.Logic.{◌⊎◌, ⊎_elim}
@@ -12,9 +13,10 @@ use borrow.Author.Tests.{ne_eqb, le-ltb}
 use Rattle.lists.specs.Lists.{from, lowest, over}
 use Rattle.lists.proofs.Buffers.{over_past}
 use Rattle.lists.proofs.Walk.{none_lowest}
+use Rattle.refusals.specs.declared.refusal.Refusal.{Refusal}
 use Rattle.refusals.specs.Reply.{Reply, granted}
 use Rattle.refusals.specs.Table.{Gives}
-use Rattle.refusals.proofs.Replies.{told_passed, granted_told, decided, granted_apart, refused_determined}
+use Rattle.refusals.proofs.Replies.{told_passed, granted_told, decided, answer_determined}
 use Rattle.refusals.proofs.Tests.{decides_less}
 use Rattle.refusals.proofs.Tables.{gives_then, gives_passed, gives_whole, gives_lowest, gives_way}
 use Rattle.outline.specs.Outline.{size, is_taxon, IsRecord}
@@ -24,24 +26,19 @@ use Rattle.diversity.specs.Diversity.{chosen, diversity, cost, chosen_taxa}
 use Rattle.diversity.specs.Behind.{MarkAt, IsSet}
 use Rattle.laws.proofs.Prefixes.{cost_step, diversity_step}
 use Rattle.choice.specs.Answer as choose
+use Rattle.choice.specs.declared.answer.Figures.{Figures as ChoiceFigures}
 use Rattle.choice.proofs.Answers.{selected_accepted}
 use Rattle.choice.proofs.Demands.{selected_row, demand_2, demand_3}
-use Rattle.sheet.specs.Answer.{Call, Figures, sums, Answered, numbers_of, told, marked_set, bad_mark, sheet_taken, judged, figures, reply, sheet_after}
+use Rattle.sheet.specs.Answer.{Call, Figures, no_figures, sums, Answered, numbers_of, told, marked_set, bad_mark, sheet_taken, judged, figures, reply, sheet_after}
 use Rattle.sheet.specs.Demands.{sheet_table, ListedOrRefused, AddsUp, TrueRow, RowsGiven, HandedMarks}
 use Rattle.sheet.specs.Sheet.{row_of, rows_of}
-use Rattle.sheet.specs.declared.answer.Answer.{Answer}
 use Rattle.sheet.proofs.Answers.{way_known, outline_accepted, set_long, marked_is_set}
 use Rattle.sheet.proofs.Opening.{quarters_opened}
 use Rattle.sheet.proofs.Sums.{quarters_sum, diversity_sum, rows_long, row_over, kth_taxon}
 
 -- the numbers told determine the answer
-pub told_determined : (a b : Answer) → told a ≡ told b → a ≡ b
-told_determined (Answer.Listed n q d) (Answer.Listed m p e) h =
-    let f : sums n q d ≡ sums m p e = ap (λ (r : Reply Figures). r.figures) h in
-    rw (ap (λ (g : Figures). g.rows) f, ap (λ (g : Figures). g.quarters) f, ap (λ (g : Figures). g.diversity) f)
-told_determined (Answer.Listed n q d) (Answer.Refused e) h = absurd (granted_apart e h)
-told_determined (Answer.Refused d) (Answer.Listed n q e) h = absurd (granted_apart d (sym h))
-told_determined (Answer.Refused d) (Answer.Refused e) h = ap Answer.Refused (refused_determined d e h)
+pub told_determined : (a b : Result Figures Refusal) → told a ≡ told b → a ≡ b
+told_determined = answer_determined no_figures
 
 module _ (c : Call) where
   -- what a call is judged is what its table gives
@@ -166,7 +163,7 @@ module _ (c : Call) (accepted : (checked c.outline).number ≡ 0) (known : (c.wa
       rw (way, accepted, le-ltb _ _ long, no_bad c.outline c.marks x, le-ltb _ _ room)
 
 -- a choice's marks are accepted as they are, and the sums are the choice's cost and diversity
-pub choice_listed : (c : choose.Call) {r : Reply choose.Figures} {marks curve work : List ℕ} → choose.Answered c r marks curve work → r.number ≡ 0
+pub choice_listed : (c : choose.Call) {r : Reply ChoiceFigures} {marks curve work : List ℕ} → choose.Answered c r marks curve work → r.number ≡ 0
     → (d : Call) {t : Reply Figures} {sheet : List ℕ} → HandedMarks c r marks d → Answered d t sheet
     → t ≡ granted (sums r.figures.taxa r.figures.cost r.figures.diversity)
 choice_listed c {r} {marks} x z d {t} h y =

@@ -1,12 +1,13 @@
 -- What a call of `sheet` is answered, and what it leaves in the sheet that it was lent.
-use Rattle.std.specs.Prelude.{ℕ, ◌-◌, ◌*◌, ◌≡◌, Bool, ◌||◌, ◌&&◌, not, List, [], ◌∷◌, length, get_or, take, eqb, ltb}
-use Rattle.refusals.specs.Refusals.{Ruling, refusal, row, row_at, ◌▸◌, after}
-use Rattle.refusals.specs.Reply.{Reply, granted, refused, replied}
+use Rattle.std.specs.Prelude.{Result, ℕ, ◌-◌, ◌*◌, ◌≡◌, Bool, ◌||◌, ◌&&◌, not, List, [], ◌∷◌, length, get_or, take, eqb, ltb}
+use Rattle.refusals.specs.Refusals.{Ruling, row, row_at, ◌▸◌, after}
+use Rattle.refusals.specs.declared.refusal.Refusal.{Refusal}
+use Rattle.refusals.specs.Reply.{Reply, answer_told, replied}
 use Rattle.outline.specs.Outline.{size, is_taxon}
 use Rattle.outline.specs.Answer.{checked}
 use Rattle.diversity.specs.Diversity.{diversity, cost, chosen_taxa}
 use Rattle.sheet.specs.Sheet.{rows_of, sum_of}
-use Rattle.sheet.specs.declared.answer.Answer.{Answer}
+pub use Rattle.sheet.specs.declared.answer.Figures.{Figures}
 
 -- a call: the outline, the way, the marks, and the lent sheet as it came in
 pub record Call : Type 0 where
@@ -17,12 +18,6 @@ pub record Call : Type 0 where
 
 abbrev pub call : List ℕ → ℕ → List ℕ → List ℕ → Call
 call outline way marks sheet = record { outline = outline; way = way; marks = marks; sheet = sheet }
-
--- what a listing tells: the number of rows and both sums
-pub record Figures : Type 0 where
-  pub rows : ℕ
-  pub quarters : ℕ
-  pub diversity : ℕ
 
 abbrev pub sums : ℕ → ℕ → ℕ → Figures
 sums rows quarters diversity = record { rows = rows; quarters = quarters; diversity = diversity }
@@ -35,9 +30,8 @@ abbrev pub numbers_of : Figures → List ℕ
 numbers_of f = f.rows ∷ f.quarters ∷ f.diversity ∷ []
 
 -- the numbers of each answer
-abbrev pub told : Answer → Reply Figures
-told (Answer.Listed rows quarters diversity) = granted (sums rows quarters diversity)
-told (Answer.Refused e) = refused no_figures (refusal e)
+abbrev pub told : Result Figures Refusal → Reply Figures
+told = answer_told no_figures
 
 -- the marked set: a mark for each record
 abbrev pub marked_set : Call → List ℕ

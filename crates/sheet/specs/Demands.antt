@@ -11,6 +11,7 @@ use Rattle.diversity.specs.Diversity.{chosen, diversity, cost, chosen_taxa}
 use Rattle.diversity.specs.Behind.{IsSet}
 use Rattle.diversity.specs.Headings.{opens}
 use Rattle.choice.specs.Answer as choose
+use Rattle.choice.specs.declared.answer.Figures.{Figures as ChoiceFigures}
 use Rattle.sheet.specs.Answer.{Call, Figures, numbers_of, marked_set, bad_mark, sheet_taken}
 use Rattle.sheet.specs.Sheet.{up_to}
 
@@ -78,7 +79,7 @@ pub record RowsGiven (c : Call) (r : Reply Figures) (sheet : List ℕ) : Type 0 
   pub rest : drop (3 * r.figures.rows) sheet ≡ drop (3 * r.figures.rows) c.sheet
 
 -- a call of `sheet` is handed the outline and the way of a call of `choose`, the marks as that left them, and room for their rows
-pub record HandedMarks (c : choose.Call) (r : Reply choose.Figures) (marks : List ℕ) (d : Call) : Type 0 where
+pub record HandedMarks (c : choose.Call) (r : Reply ChoiceFigures) (marks : List ℕ) (d : Call) : Type 0 where
   pub outline_is : d.outline ≡ c.outline
   pub way_is : d.way ≡ c.way
   pub marks_are : d.marks ≡ marks

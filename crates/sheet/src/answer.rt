@@ -1,12 +1,9 @@
-// What listing a set answers.
-use refusals::verdict::Refusal;
+// What listing a set tells.
 
-#[derive(Drop)]
-pub enum Answer {
-    Listed {
-        rows: u32,
-        quarters: u32,
-        diversity: u32,
-    },
-    Refused(Refusal),
+// The number of rows, and both of their sums.
+#[derive(Clone, Copy, Debug, PartialEq, Eq)]
+pub struct Figures {
+    pub rows: u32,
+    pub quarters: u32,
+    pub diversity: u32,
 }

@@ -2,12 +2,12 @@
 // caller.
 #![tactic(auto)]
 
-pub mod answer;
+mod answer;
 mod firsts;
 mod judge;
 mod lister;
 mod outsides;
 mod tables;
 
-pub use answer::Answer;
+pub use answer::Figures;
 pub use lister::sheet;

@@ -6,14 +6,14 @@ ghost use Rattle.sheet.specs.Answer.{call, told, Answered};
 ghost use Rattle.sheet.specs.Inner.{Listable, row_in, RowFits};
 ghost use Rattle.sheet.specs.Sheet.{rows_of};
 
-use super::answer::Answer;
+use super::answer::Figures;
 use super::firsts::firsts_of;
 use super::judge::judge;
 use super::tables::{diversity_of, quarters_of};
 use measures::measure;
 use outline::fields::plate_of;
 use outline::limits::NUMBERS;
-use refusals::verdict::Verdict;
+use refusals::Refusal;
 
 // Writes the row of record r at a place, if it is chosen, and answers the next place.
 fn put_row(
@@ -58,22 +58,18 @@ fn write_rows(o: &[u8], way: u32, set: &[u8], sheet: &mut [u32])
 
 // Lists each chosen taxon of a marked set, in record order, with its plate and with the quarters and the diversity that it adds to
 // those before it; and answers their number and both sums. Marks past the last record are not looked at.
-pub fn sheet(outline: &[u8], way: u32, marks: &[u8], sheet: &mut [u32]) -> Answer
+pub fn sheet(outline: &[u8], way: u32, marks: &[u8], sheet: &mut [u32]) -> Result<Figures, Refusal>
     ensures { Answered
         (call outline.now way marks.now sheet.old)
         (told result) sheet.new }
 {
-    match judge(outline, way, marks, sheet) {
-        Verdict::Refused(refusal) => Answer::Refused(refusal),
-        Verdict::Accepted => {
-            let set = &marks[..outline.len() / 16];
-            write_rows(outline, way, set, sheet);
-            let sum = measure(outline, set, way);
-            Answer::Listed {
-                rows: sum.taxa,
-                quarters: sum.cost,
-                diversity: sum.diversity,
-            }
-        }
-    }
+    judge(outline, way, marks, sheet)?;
+    let set = &marks[..outline.len() / 16];
+    write_rows(outline, way, set, sheet);
+    let sum = measure(outline, set, way);
+    Ok(Figures {
+        rows: sum.taxa,
+        quarters: sum.cost,
+        diversity: sum.diversity,
+    })
 }

@@ -8,7 +8,7 @@ use lib.ListN.{length}
 use borrow.Author.Tests.{ltb-false, eq-eqb}
 use Rattle.lists.specs.Lists.{over}
 use Rattle.refusals.specs.Refusals.{passed, refusal, row}
-use Rattle.refusals.specs.declared.verdict.Refusal.{Refusal}
+use Rattle.refusals.specs.declared.refusal.Refusal.{Refusal}
 use Rattle.refusals.proofs.Refusals.{both_pass, row_fails, refusal_not_zero}
 use Rattle.outline.specs.WellFormed.{WellFormed}
 use Rattle.outline.specs.Answer.{checked}

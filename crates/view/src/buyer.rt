@@ -11,7 +11,7 @@ ghost use Rattle.view.specs.View.{buyer_record, buyer_view};
 use super::judge::judge;
 use outline::fields::{branch_of, first_of, next_of, plate_of};
 use records::put_record;
-use refusals::verdict::Verdict;
+use refusals::Refusal;
 
 // Writes record r without its price and its lock at a place, and answers the next place.
 fn put_cleared(o: &[u8], r: usize, view: &mut [u8], at: usize) -> usize
@@ -41,14 +41,10 @@ fn write_cleared(o: &[u8], view: &mut [u8])
 }
 
 // Refuses by the first row that holds; else writes the cleared records.
-pub fn view_buyer(outline: &[u8], view: &mut [u8]) -> Verdict
+pub fn view_buyer(outline: &[u8], view: &mut [u8]) -> Result<(), Refusal>
     ensures { Answered buyer_view (call outline.now view.old) (told result) view.new }
 {
-    match judge(outline, view) {
-        Verdict::Refused(refusal) => Verdict::Refused(refusal),
-        Verdict::Accepted => {
-            write_cleared(outline, view);
-            Verdict::Accepted
-        }
-    }
+    judge(outline, view)?;
+    write_cleared(outline, view);
+    Ok(())
 }

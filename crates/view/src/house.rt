@@ -4,18 +4,14 @@ ghost use Rattle.view.specs.Answer.{call, Answered};
 ghost use Rattle.view.specs.View.{house_view};
 
 use super::judge::judge;
-use refusals::verdict::Verdict;
+use refusals::Refusal;
 use text::put_text;
 
 // Refuses by the first row that holds; else writes the outline's bytes, which `put_text` copies as it copies any.
-pub fn view_house(outline: &[u8], view: &mut [u8]) -> Verdict
+pub fn view_house(outline: &[u8], view: &mut [u8]) -> Result<(), Refusal>
     ensures { Answered house_view (call outline.now view.old) (told result) view.new }
 {
-    match judge(outline, view) {
-        Verdict::Refused(refusal) => Verdict::Refused(refusal),
-        Verdict::Accepted => {
-            put_text(view, 0, outline);
-            Verdict::Accepted
-        }
-    }
+    judge(outline, view)?;
+    put_text(view, 0, outline);
+    Ok(())
 }

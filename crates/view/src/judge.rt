@@ -4,18 +4,15 @@ ghost use Rattle.refusals.specs.Refusals.{told};
 ghost use Rattle.view.specs.Answer.{call, judged};
 
 use outline::check;
-use refusals::verdict::{Refusal, Verdict};
+use refusals::Refusal;
 
 // The first row that holds, the same for either reader.
-pub fn judge(outline: &[u8], view: &[u8]) -> Verdict
+pub fn judge(outline: &[u8], view: &[u8]) -> Result<(), Refusal>
     ensures { told result ≡ judged (call outline.now view.now) }
 {
-    let checked = check(outline);
-    if let Verdict::Refused(_) = checked {
-        return checked;
-    }
+    check(outline)?;
     if view.len() < 16 * (outline.len() / 16) {
-        return Verdict::Refused(Refusal::BufferTooShort);
+        return Err(Refusal::BufferTooShort);
     }
-    Verdict::Accepted
+    Ok(())
 }

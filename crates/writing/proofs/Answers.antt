@@ -1,28 +1,27 @@
 -- What a call of `write` is answered, row by row.
+use Rattle.std.specs.Prelude.{Some, None, Ok, Err}
 use Prim.Native.Nat.{ℕ, ◌+◌, ◌*◌, ◌/◌, ◌≤◌}
-use mathlib.Core.Path.{◌≡◌, sym, ap, ◌∙◌}
-use mathlib.Core.Logic.{◌≢◌}
+use mathlib.Core.Path.{◌≡◌, refl, sym, ap, ◌∙◌}
 use mathlib.Core.Bool.{true, false, ◌||◌}
 use mathlib.Core.List.{List}
 use native.Mathlib.Omega.{arith}
 use lib.Dec.{eqb, ltb}
 use lib.ListN.{length}
-use borrow.Author.Tests.{ne_eqb, ltb-false}
-use Rattle.lists.specs.Lists.{total, lowest, over, Bytes}
+use borrow.Author.Tests.{ltb-false}
+use Rattle.lists.specs.Lists.{total, lowest, nonzero, over, Bytes}
 use Rattle.lists.proofs.Bools.{both_false}
-use Rattle.refusals.specs.Refusals.{Ruling, passed, refusal, told as told_verdict, row}
-use Rattle.refusals.specs.declared.verdict.Refusal.{Refusal}
-use Rattle.refusals.specs.declared.verdict.Verdict.{Verdict}
-use Rattle.refusals.proofs.Refusals.{refusal_not_zero}
+use Rattle.lists.proofs.Walk.{nonzero_none}
+use Rattle.refusals.specs.Refusals.{Ruling, passed, refusal, row}
+use Rattle.refusals.specs.declared.refusal.Refusal.{Refusal}
+use Rattle.refusals.proofs.Refusals.{refusal_not_zero, row_at_found, row_at_passed}
 use Rattle.outline.specs.WellFormed.{WellFormed}
-use Rattle.outline.specs.Outline.{records}
+use Rattle.outline.specs.Outline.{size, records}
 use Rattle.outline.specs.Answer.{checked}
 use Rattle.outline.proofs.WellFormed.{accepted_formed}
 use Rattle.writing.specs.Text.{outline_text, outline_pairs}
-use Rattle.writing.specs.Answer.{Call, told, too_short, judged, reply, text_after, pairs_after, Answered}
+use Rattle.writing.specs.Answer.{Call, counts, told, too_short, judged, reply, text_after, pairs_after, Answered}
 use Rattle.newick.specs.Trees.{unwritable}
 use Rattle.writing.specs.Inner.{own_bytes, Writable}
-use Rattle.writing.specs.declared.answer.Answer.{Answer}
 use Rattle.writing.proofs.OwnBytes.{text_length, most_written, text_few}
 use Rattle.newick.proofs.Plain.{Plain}
 use Rattle.writing.proofs.Priced.{pairs_count}
@@ -30,41 +29,40 @@ use Rattle.writing.proofs.Demands.{plain_by}
 use Rattle.outline.specs.Rules.{taxa}
 
 module _ (c : Call) (small : Bytes c.outline) where
-  refused_by : (e : Refusal) → judged c ≡ refusal e → Answered c (told (Answer.Refused e)) c.text c.pairs
+  refused_by : (e : Refusal) → judged c ≡ refusal e → Answered c (told (Err e)) c.text c.pairs
   unfolding reply text_after pairs_after
   refused_by e h =
       let off : eqb (judged c).number 0 ≡ false = ap (λ (t : Ruling). eqb t.number 0) h ∙ refusal_not_zero e in
       record { told_reply = rw (off, h); text_written = rw off; pairs_written = rw off; outline_bytes = small }
 
   -- the check refuses
-  pub check_refused : {v : Verdict} (e : Refusal) → told_verdict v ≡ checked c.outline → v ≡ Verdict.Refused e
-      → Answered c (told (Answer.Refused e)) c.text c.pairs
+  pub check_refused : (e : Refusal) → refusal e ≡ checked c.outline → Answered c (told (Err e)) c.text c.pairs
   unfolding judged
-  check_refused e h is = refused_by e (let is : checked c.outline ≡ refusal e = sym h ∙ ap told_verdict is in rw (is, refusal_not_zero e))
+  check_refused e h = refused_by e (rw (← h, refusal_not_zero e))
 
   -- the check passes
-  module _ {v : Verdict} (h : told_verdict v ≡ checked c.outline) (is : v ≡ Verdict.Accepted) where
+  module _ (h : passed ≡ checked c.outline) where
     passes : checked c.outline ≡ passed
-    passes = sym h ∙ ap told_verdict is
+    passes = sym h
 
     pub formed_by : WellFormed c.outline
     formed_by = accepted_formed c.outline (ap (λ (t : Ruling). eqb t.number 0) passes)
 
     -- a record is unwritable
-    pub place_refused : {p : ℕ} → p ≡ lowest (unwritable c.outline) (records c.outline) → p ≢ 0
-        → Answered c (told (Answer.Refused (Refusal.Unwritable p))) c.text c.pairs
+    pub place_refused : {p : ℕ} → Some p ≡ nonzero (lowest (unwritable c.outline) (records c.outline))
+        → Answered c (told (Err (Refusal.Unwritable p))) c.text c.pairs
     unfolding judged records
-    place_refused {p} e n = refused_by (Refusal.Unwritable p) (rw (passes, ← e, ne_eqb p 0 n))
+    place_refused {p} e = refused_by (Refusal.Unwritable p) (rw (passes, row_at_found 13 (unwritable c.outline) (size c.outline) refl e))
 
     -- none is
-    module _ {p : ℕ} (e : p ≡ lowest (unwritable c.outline) (records c.outline)) (z : p ≡ 0) where
+    module _ (e : None ≡ nonzero (lowest (unwritable c.outline) (records c.outline))) where
       last_row : judged c ≡ row 9 (too_short c)
       unfolding judged records
-      last_row = rw (passes, ← e, z)
+      last_row = rw (passes, row_at_passed 13 (unwritable c.outline) (size c.outline) refl e)
 
       plain : Plain c.outline
       unfolding records
-      plain = plain_by c.outline (ap (λ (t : Ruling). t.number) passes) (sym e ∙ z)
+      plain = plain_by c.outline (ap (λ (t : Ruling). t.number) passes) (nonzero_none _ e)
 
       module _ {b : ℕ} (bytes : b ≡ total (own_bytes c.outline) (records c.outline)) where
         bytes_are : b + 1 ≡ length (outline_text c.outline)
@@ -83,7 +81,7 @@ module _ (c : Call) (small : Bytes c.outline) where
 
           -- a buffer is short
           pub room_refused : (ltb (length c.text) (b + 1) || ltb (length c.pairs) (2 * k)) ≡ true
-              → Answered c (told (Answer.Refused Refusal.BufferTooShort)) c.text c.pairs
+              → Answered c (told (Err Refusal.BufferTooShort)) c.text c.pairs
           room_refused s = refused_by Refusal.BufferTooShort (last_row ∙ ap (row 9) (sym short_is ∙ s))
 
           -- or there is room, and all is written
@@ -98,7 +96,7 @@ module _ (c : Call) (small : Bytes c.outline) where
                 }
 
             pub all_written : {text pairs : List ℕ} → text ≡ over (outline_text c.outline) c.text → pairs ≡ over (outline_pairs c.outline) c.pairs
-                → Answered c (told (Answer.Written (b + 1) k)) text pairs
+                → Answered c (told (Ok (counts (b + 1) k))) text pairs
             unfolding reply text_after pairs_after
             all_written d f =
                 let none : judged c ≡ passed = last_row ∙ ap (row 9) (sym short_is ∙ s) in

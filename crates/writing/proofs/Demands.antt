@@ -1,5 +1,5 @@
 -- What is promised of every call of `write`: what its contract says of the answer and the buffers is what the words ask.
-use Rattle.std.specs.Prelude.{if◌then◌else◌}
+use Rattle.std.specs.Prelude.{if◌then◌else◌, Result}
 use Prim.Native.Nat.{ℕ, ◌*◌, ◌+◌, ◌/◌, ◌≤◌}
 use mathlib.Core.Path.{◌≡◌, refl, sym, ap, subst, ◌∙◌}
 use mathlib.Core.Bool.{Bool, true, false}
@@ -12,10 +12,11 @@ use Rattle.lists.specs.Lists.{from, lowest, over}
 use Rattle.lists.proofs.Buffers.{over_taken, over_past}
 use Rattle.lists.proofs.Walk.{lowest_none}
 use Rattle.refusals.specs.Refusals.{Ruling, ruling, passed, row, row_at, ◌▸◌}
+use Rattle.refusals.specs.declared.refusal.Refusal.{Refusal}
 use Rattle.refusals.specs.Reply.{Reply, ruling_of, granted}
 use Rattle.refusals.specs.Table.{FirstRow, here, later, Gives, gives_none, gives_first}
 use Rattle.refusals.proofs.Refusals.{both_pass, row_at_fails}
-use Rattle.refusals.proofs.Replies.{ruling_told, decided, granted_apart, refused_determined}
+use Rattle.refusals.proofs.Replies.{ruling_told, decided, answer_determined}
 use Rattle.refusals.proofs.Tests.{decides_less, decides_either}
 use Rattle.refusals.proofs.Tables.{gives_then, gives_passed, gives_whole, gives_lowest}
 use Rattle.outline.specs.Outline.{size, plate}
@@ -25,10 +26,9 @@ use Rattle.outline.proofs.WellFormed.{accepted_formed}
 use Rattle.outline.proofs.Demands.{checked_gives}
 use Rattle.reading.specs.Demands.{Pair}
 use Rattle.writing.specs.Text.{outline_text, outline_pairs}
-use Rattle.writing.specs.Answer.{Call, Figures, numbers_of, told, figures, too_short, judged, reply, text_after, pairs_after, Answered}
+use Rattle.writing.specs.Answer.{Call, Figures, no_figures, numbers_of, told, figures, too_short, judged, reply, text_after, pairs_after, Answered}
 use Rattle.newick.specs.Trees.{tree_of, unwritable}
 use Rattle.writing.specs.Demands.{write_table, WrittenOrRefused, TextGiven, HasRoom}
-use Rattle.writing.specs.declared.answer.Answer.{Answer}
 use Rattle.writing.proofs.Canonical.{text_spells, text_dense}
 use Rattle.writing.proofs.OwnBytes.{text_most, text_short}
 use Rattle.reading.proofs.Pairing.{priced}
@@ -37,12 +37,8 @@ use Rattle.writing.proofs.Priced.{one_pair, own_price, pairs_tree, pairs_count}
 use Rattle.outline.specs.Rules.{taxa}
 
 -- the numbers told determine the answer
-pub told_determined : (a b : Answer) → told a ≡ told b → a ≡ b
-told_determined (Answer.Written b k) (Answer.Written d l) h =
-    rw (ap (λ (r : Reply Figures). r.figures.bytes) h, ap (λ (r : Reply Figures). r.figures.pairs) h)
-told_determined (Answer.Written b k) (Answer.Refused e) h = absurd (granted_apart e h)
-told_determined (Answer.Refused d) (Answer.Written b k) h = absurd (granted_apart d (sym h))
-told_determined (Answer.Refused d) (Answer.Refused e) h = ap Answer.Refused (refused_determined d e h)
+pub told_determined : (a b : Result Figures Refusal) → told a ≡ told b → a ≡ b
+told_determined = answer_determined no_figures
 
 -- ---- what a call is judged is what its table gives
 module _ (c : Call) where

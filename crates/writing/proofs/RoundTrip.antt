@@ -20,6 +20,7 @@ use Rattle.outline.proofs.Demands.{records_give}
 use Rattle.diversity.specs.Order.{InTextOrder}
 use Rattle.laws.proofs.Chains.{clade_size}
 use Rattle.reading.specs.Answer as read
+use Rattle.reading.specs.declared.answer.Figures.{Figures as ReadingFigures}
 use Rattle.reading.specs.Demands.{TreeGiven}
 use Rattle.newick.specs.Grammar.{part, Tree, Spells}
 use Rattle.newick.specs.Layout.{count, layout}
@@ -72,7 +73,7 @@ module _ (o : List ℕ) (plain : Plain o) (small : Bytes o) (accepted : checked 
         same_layout,
       ) fields
 
-  back : {c : read.Call} {r : Reply read.Figures} {outline : List ℕ} → parsed c.text ≡ tree (tree_of o) → c.pairs ≡ outline_pairs o
+  back : {c : read.Call} {r : Reply ReadingFigures} {outline : List ℕ} → parsed c.text ≡ tree (tree_of o) → c.pairs ≡ outline_pairs o
       → length o ≤ length c.outline → read.Answered c r outline → GivenBack o c r outline
   unfolding read.judged read.reply read.outline_after
   back {c} e f long x =
@@ -84,7 +85,7 @@ module _ (o : List ℕ) (plain : Plain o) (small : Bytes o) (accepted : checked 
 
 -- of calls: what was written is handed to a call of `read`, with a buffer that suffices
 pub same_bytes : {c : Call} {r : Reply Figures} {text pairs : List ℕ} → Answered c r text pairs → r.number ≡ 0 → InTextOrder c.outline
-    → {d : read.Call} {s : Reply read.Figures} {outline : List ℕ} → Handed r text pairs d → length c.outline ≤ length d.outline
+    → {d : read.Call} {s : Reply ReadingFigures} {outline : List ℕ} → Handed r text pairs d → length c.outline ≤ length d.outline
     → read.Answered d s outline → GivenBack c.outline d s outline
 same_bytes {c} x z order {d} h long y =
     let given = text_given c x z in
@@ -94,7 +95,7 @@ same_bytes {c} x z order {d} h long y =
 
 -- whatever the order of its records: where what was written is read, it is as many records, of the same tree
 pub same_tree : {c : Call} {r : Reply Figures} {text pairs : List ℕ} → Answered c r text pairs → r.number ≡ 0
-    → {d : read.Call} {s : Reply read.Figures} {outline : List ℕ} → Handed r text pairs d → read.Answered d s outline → s.number ≡ 0
+    → {d : read.Call} {s : Reply ReadingFigures} {outline : List ℕ} → Handed r text pairs d → read.Answered d s outline → s.number ≡ 0
     → (s.figures.records ≡ size c.outline) × (tree_of (take (16 * s.figures.records) outline) ≡ tree_of c.outline)
 same_tree {c} x z {d} h y e =
     let written = text_given c x z in
@@ -108,7 +109,7 @@ same_tree {c} x z {d} h y e =
 
 -- and it is read, where the buffer suffices
 pub written_accepted : {c : Call} {r : Reply Figures} {text pairs : List ℕ} → Answered c r text pairs → r.number ≡ 0
-    → {d : read.Call} {s : Reply read.Figures} {outline : List ℕ} → Handed r text pairs d → length c.outline ≤ length d.outline → read.Answered d s outline
+    → {d : read.Call} {s : Reply ReadingFigures} {outline : List ℕ} → Handed r text pairs d → length c.outline ≤ length d.outline → read.Answered d s outline
     → (s.number ≡ 0) × (s.figures.records ≡ size c.outline) × (tree_of (take (16 * s.figures.records) outline) ≡ tree_of c.outline)
 unfolding read.rows_for read.judged read.reply
 written_accepted {c} x z {d} {s} h long y =
@@ -124,13 +125,13 @@ written_accepted {c} x z {d} {s} h long y =
       le-ltb (length d.outline) (16 * count (tree_of o)) (omega (arith, some, plain.formed.whole)),
     ) (regrown_passes o plain) in
     let read_it : s.number ≡ 0 =
-    ap (λ (a : Reply read.Figures). a.number) y.told_reply
+    ap (λ (a : Reply ReadingFigures). a.number) y.told_reply
     ∙ rw (parsed_complete (tree_of o) d.text spelled, h.pairs_are ∙ written.pairs_are, none) in
     let same = same_tree x z h y read_it in
     (read_it, same.0, same.1)
 
 -- ---- what is read from an accepted text
-module _ {c : read.Call} {r : Reply read.Figures} {outline : List ℕ} (x : read.Answered c r outline) (z : r.number ≡ 0) where
+module _ {c : read.Call} {r : Reply ReadingFigures} {outline : List ℕ} (x : read.Answered c r outline) (z : r.number ≡ 0) where
   given : TreeGiven c r outline
   given = tree_given c x z
 
@@ -149,12 +150,12 @@ module _ {c : read.Call} {r : Reply read.Figures} {outline : List ℕ} (x : read
 
     -- what was read and written is read again, and is the same outline
     pub read_again : {s : Reply Figures} {text pairs : List ℕ} → Answered w s text pairs → s.number ≡ 0
-        → {d : read.Call} {u : Reply read.Figures} {again : List ℕ} → Handed s text pairs d → length w.outline ≤ length d.outline
+        → {d : read.Call} {u : Reply ReadingFigures} {again : List ℕ} → Handed s text pairs d → length w.outline ≤ length d.outline
         → read.Answered d u again → GivenBack w.outline d u again
     read_again y e = same_bytes y e (rw ret given.in_order)
 
 -- from any accepted text, a second writing equals the first: what was read is written, read again, and written again
-pub second_writing : {c d : read.Call} {r q : Reply read.Figures} {outline again : List ℕ} {w v : Call} {s u : Reply Figures} {text pairs text' pairs' : List ℕ}
+pub second_writing : {c d : read.Call} {r q : Reply ReadingFigures} {outline again : List ℕ} {w v : Call} {s u : Reply Figures} {text pairs text' pairs' : List ℕ}
     → read.Answered c r outline → r.number ≡ 0
     → Returned r outline w → Answered w s text pairs → s.number ≡ 0
     → Handed s text pairs d → length w.outline ≤ length d.outline → read.Answered d q again
@@ -163,7 +164,7 @@ pub second_writing : {c d : read.Call} {r q : Reply read.Figures} {outline again
 second_writing {r = r} {q = q} {outline = outline} {w = w} {v = v} {s = s} x z ret y e h long p ret' room y' =
     let back = read_again x z w ret y e h long p in
     let first = text_given w y e in
-    let many : q.figures.records ≡ size w.outline = ap (λ (a : Reply read.Figures). a.figures.records) back.told_size in
+    let many : q.figures.records ≡ size w.outline = ap (λ (a : Reply ReadingFigures). a.figures.records) back.told_size in
     let whole : length w.outline ≡ 16 * q.figures.records = omega (arith, (returned x z w ret).formed.whole) in
     let same : v.outline ≡ w.outline =
     ret' ∙ ap (take (16 * q.figures.records)) back.same_bytes ∙ over_taken w.outline _ (16 * q.figures.records) whole in
@@ -172,7 +173,7 @@ second_writing {r = r} {q = q} {outline = outline} {w = w} {v = v} {s = s} x z r
       for_text = rw same (omega (arith, first.bytes_are, room.for_text));
       for_pairs = rw same (omega (arith, first.one_each, room.for_pairs));
     } in
-    let zero = read_written p (ap (λ (a : Reply read.Figures). a.number) back.told_size) v ret' y' enough in
+    let zero = read_written p (ap (λ (a : Reply ReadingFigures). a.number) back.told_size) v ret' y' enough in
     let second = text_given v y' zero in
     record {
       told_alike = told_counts v y' zero ∙ rw same (sym (told_counts w y e));

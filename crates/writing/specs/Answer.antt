@@ -1,13 +1,14 @@
 -- What a call of `write` is answered, and what it leaves in the two buffers that it was lent.
-use Rattle.std.specs.Prelude.{ℕ, ◌/◌, ◌≡◌, Bool, ◌||◌, List, [], ◌∷◌, length, ltb}
+use Rattle.std.specs.Prelude.{Result, ℕ, ◌/◌, ◌≡◌, Bool, ◌||◌, List, [], ◌∷◌, length, ltb}
 use Rattle.lists.specs.Lists.{Bytes}
-use Rattle.refusals.specs.Refusals.{Ruling, refusal, row, row_at, ◌▸◌, after}
-use Rattle.refusals.specs.Reply.{Reply, granted, refused, replied}
+use Rattle.refusals.specs.Refusals.{Ruling, row, row_at, ◌▸◌, after}
+use Rattle.refusals.specs.declared.refusal.Refusal.{Refusal}
+use Rattle.refusals.specs.Reply.{Reply, answer_told, replied}
 use Rattle.outline.specs.Outline.{size}
 use Rattle.outline.specs.Answer.{checked}
 use Rattle.newick.specs.Trees.{unwritable}
 use Rattle.writing.specs.Text.{outline_text, outline_pairs}
-use Rattle.writing.specs.declared.answer.Answer.{Answer}
+pub use Rattle.writing.specs.declared.answer.Figures.{Figures}
 
 -- a call: the outline, and the lent buffers for its text and its pairs as they came in
 pub record Call : Type 0 where
@@ -17,11 +18,6 @@ pub record Call : Type 0 where
 
 abbrev pub call : List ℕ → List ℕ → List ℕ → Call
 call outline text pairs = record { outline = outline; text = text; pairs = pairs }
-
--- what a writing tells: the counts of bytes and of pairs
-pub record Figures : Type 0 where
-  pub bytes : ℕ
-  pub pairs : ℕ
 
 abbrev pub counts : ℕ → ℕ → Figures
 counts bytes pairs = record { bytes = bytes; pairs = pairs }
@@ -34,9 +30,8 @@ abbrev pub numbers_of : Figures → List ℕ
 numbers_of f = f.bytes ∷ f.pairs ∷ []
 
 -- the numbers of each answer
-abbrev pub told : Answer → Reply Figures
-told (Answer.Written bytes pairs) = granted (counts bytes pairs)
-told (Answer.Refused e) = refused no_figures (refusal e)
+abbrev pub told : Result Figures Refusal → Reply Figures
+told = answer_told no_figures
 
 -- refusal 9: the buffer for the text or for the pairs is short
 unfoldable pub too_short : Call → Bool

@@ -8,6 +8,7 @@ use Rattle.outline.specs.Outline.{size, price, plate, is_taxon, IsRecord}
 use Rattle.outline.specs.Answer.{checked}
 use Rattle.outline.specs.Demands.{check_table}
 use Rattle.reading.specs.Answer as read
+use Rattle.reading.specs.declared.answer.Figures.{Figures as ReadingFigures}
 use Rattle.reading.specs.Demands.{In, Pair}
 use Rattle.newick.specs.Grammar.{Blank, Spells}
 use Rattle.newick.specs.Layout.{plates}
@@ -53,11 +54,11 @@ pub record Handed (r : Reply Figures) (text pairs : List ℕ) (c : read.Call) : 
   pub pairs_are : c.pairs ≡ take (2 * r.figures.pairs) pairs
 
 -- a call of `write` is handed the outline that a call of `read` gave
-abbrev pub Returned : Reply read.Figures → List ℕ → Call → Type 0
+abbrev pub Returned : Reply ReadingFigures → List ℕ → Call → Type 0
 Returned r outline c = c.outline ≡ take (16 * r.figures.records) outline
 
 -- a call of `read` gives back the bytes of an outline, with its number of records, and leaves what is past them
-pub record GivenBack (o : List ℕ) (c : read.Call) (r : Reply read.Figures) (outline : List ℕ) : Type 0 where
+pub record GivenBack (o : List ℕ) (c : read.Call) (r : Reply ReadingFigures) (outline : List ℕ) : Type 0 where
   pub told_size : r ≡ granted (read.counted (size o))
   pub same_bytes : outline ≡ over o c.outline
 

@@ -1,8 +1,8 @@
-// What writing answers.
-use refusals::verdict::Refusal;
+// What writing tells.
 
-#[derive(Drop)]
-pub enum Answer {
-    Written { bytes: usize, pairs: usize },
-    Refused(Refusal),
+// The counts of bytes and of pairs.
+#[derive(Clone, Copy, Debug, PartialEq, Eq)]
+pub struct Figures {
+    pub bytes: usize,
+    pub pairs: usize,
 }

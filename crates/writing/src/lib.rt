@@ -2,12 +2,12 @@
 // caller.
 #![tactic(auto)]
 
-pub mod answer;
+mod answer;
 mod chains;
 mod pricing;
 mod sizes;
 mod unwritable;
 mod writer;
 
-pub use answer::Answer;
+pub use answer::Figures;
 pub use writer::write;

@@ -38,12 +38,9 @@ pub fn bytes_of(o: &[u8]) -> usize
     requires { size o.now ≤ most_records }
     ensures { result ≡ total (own_bytes o.now) (records o.now) }
 {
-    let n = o.len() / 16;
     let mut sum = 0;
-    let mut r = 1;
-    while r <= n {
+    for r in 1..=o.len() / 16 {
         sum += own_bytes(o, r);
-        r += 1;
     }
     sum
 }

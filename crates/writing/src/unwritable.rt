@@ -1,9 +1,10 @@
 // Refusal 13, record by record.
 ghost use Rattle.std.specs.Prelude.{◌≡◌};
-ghost use Rattle.lists.specs.Lists.{lowest};
+ghost use Rattle.lists.specs.Lists.{lowest as lowest_of, nonzero};
 ghost use Rattle.outline.specs.Outline.{records, IsRecord};
 ghost use Rattle.newick.specs.Trees.{unwritable};
 
+use lists::lowest;
 use outline::fields::{is_locked, is_taxon, plate_of, price_of};
 
 // Whether record r has a heading price, a lock, or a plate of more than 9 digits.
@@ -15,17 +16,9 @@ fn is_unwritable(o: &[u8], r: usize) -> bool
     priced | (is_locked(o, r) | (999999999 < plate_of(o, r)))
 }
 
-// The lowest such record, 0 if there is none.
-pub fn unwritable_at(o: &[u8]) -> usize
-    ensures { result ≡ lowest (unwritable o.now) (records o.now) }
+// The lowest such record, if there is one.
+pub fn unwritable_at(o: &[u8]) -> Option<usize>
+    ensures { result ≡ nonzero (lowest_of (unwritable o.now) (records o.now)) }
 {
-    let n = o.len() / 16;
-    let mut r = 1;
-    while r <= n {
-        if is_unwritable(o, r) {
-            return r;
-        }
-        r += 1;
-    }
-    0
+    lowest(o.len() / 16, |r| is_unwritable(o, r))
 }

@@ -5,14 +5,14 @@ ghost use Rattle.writing.specs.Text.{outline_text, outline_pairs};
 ghost use Rattle.writing.specs.Answer.{call, told, Answered};
 ghost use Rattle.writing.specs.Inner.{Writable};
 
-use super::answer::Answer;
+use super::answer::Figures;
 use super::chains::put_chain;
 use super::pricing::put_pairs;
 use super::sizes::bytes_of;
 use super::unwritable::unwritable_at;
 use outline::check;
 use outline::rules::taxa_of;
-use refusals::verdict::{Refusal, Verdict};
+use refusals::Refusal;
 use text::put_byte;
 
 // Writes an outline for which no row holds.
@@ -27,25 +27,20 @@ fn write_all(outline: &[u8], text: &mut [u8], pairs: &mut [u32])
 }
 
 // Writes an outline as text and price pairs, plate then price. The sizes are counted before anything is written.
-pub fn write(outline: &[u8], text: &mut [u8], pairs: &mut [u32]) -> Answer
+pub fn write(outline: &[u8], text: &mut [u8], pairs: &mut [u32]) -> Result<Figures, Refusal>
     ensures { Answered
         (call outline.now text.old pairs.old)
         (told result) text.new pairs.new }
 {
-    match check(outline) {
-        Verdict::Refused(refusal) => Answer::Refused(refusal),
-        Verdict::Accepted => {
-            let place = unwritable_at(outline);
-            if place != 0 {
-                return Answer::Refused(Refusal::Unwritable(place));
-            }
-            let bytes = bytes_of(outline) + 1;
-            let taxa = taxa_of(outline);
-            if (text.len() < bytes) | (pairs.len() < 2 * taxa) {
-                return Answer::Refused(Refusal::BufferTooShort);
-            }
-            write_all(outline, text, pairs);
-            Answer::Written { bytes, pairs: taxa }
-        }
+    check(outline)?;
+    if let Some(r) = unwritable_at(outline) {
+        return Err(Refusal::Unwritable(r));
     }
+    let bytes = bytes_of(outline) + 1;
+    let taxa = taxa_of(outline);
+    if (text.len() < bytes) | (pairs.len() < 2 * taxa) {
+        return Err(Refusal::BufferTooShort);
+    }
+    write_all(outline, text, pairs);
+    Ok(Figures { bytes, pairs: taxa })
 }

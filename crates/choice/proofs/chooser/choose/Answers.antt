@@ -1,6 +1,7 @@
 -- `choice::chooser::choose` meets its contract: a refusal of the table, or a selection.
 use Rattle.std.proofs.Common.{◌≡◌, sym, true}
 use Rattle.refusals.specs.Refusals.{passed}
+use Rattle.refusals.proofs.Refusals.{handed_on}
 use Rattle.choice.specs.Answer.{Call, judged, is_selected}
 use Rattle.choice.proofs.Answers.{selected_solvable, part_inside, part_long, part_solvable, solved_answered, refused_answered}
 use Rattle.choice.proofs.chooser.choose.Goals as goal
@@ -11,20 +12,20 @@ accepted k e = rw (← e)
 
 pub work_taken-taken-requires : goal.work_taken-taken-requires
 work_taken-taken-requires c =
-    let s = selected_solvable _ (accepted _ c.in-Accepted.ensures) in
+    let s = selected_solvable _ (accepted _ c.in_ok-judge.ensures) in
     record { records = s.formed.size_most; columns = s.low }
 
 pub slice_bounds-solve-end : goal.slice_bounds-solve-end
-slice_bounds-solve-end c = part_inside _ (accepted _ c.in-Accepted.ensures) _ c.work_taken-taken.ensures
+slice_bounds-solve-end c = part_inside _ (accepted _ c.in_ok-judge.ensures) _ c.work_taken-taken.ensures
 
-pub slice_bounds-solve-end-in-Accepted : goal.slice_bounds-solve-end-in-Accepted
-slice_bounds-solve-end-in-Accepted c = sym (part_long _ (accepted _ c.in-Accepted.ensures) _ c.work_taken-taken.ensures)
+pub slice_bounds-solve-end-2 : goal.slice_bounds-solve-end-2
+slice_bounds-solve-end-2 c = sym (part_long _ (accepted _ c.in_ok-judge.ensures) _ c.work_taken-taken.ensures)
 
 pub solve-requires : goal.solve-requires
-solve-requires c = part_solvable _ (accepted _ c.in-Accepted.ensures) _ c.work_taken-taken.ensures
+solve-requires c = part_solvable _ (accepted _ c.in_ok-judge.ensures) _ c.work_taken-taken.ensures
 
-pub returns-in-Refused : goal.returns-in-Refused
-returns-in-Refused c = refused_answered _ c.in-Refused.refusal c.in-Refused.ensures
+pub returns-in_err-judge : goal.returns-in_err-judge
+returns-in_err-judge c = rw (handed_on _ c.from_residual.ensures.1) (refused_answered _ _ c.in_err-judge.ensures)
 
-pub returns-in-Accepted : goal.returns-in-Accepted
-returns-in-Accepted c = solved_answered _ (accepted _ c.in-Accepted.ensures) _ c.work_taken-taken.ensures c.solve.ensures
+pub returns : goal.returns
+returns c = solved_answered _ (accepted _ c.in_ok-judge.ensures) _ c.work_taken-taken.ensures c.solve.ensures

@@ -1,8 +1,8 @@
 -- `choice::judge::judge` meets its contract: the rows that passed leave the answer to the next one.
 use Rattle.std.proofs.Common.{ℕ, ◌<◌, ◌≤◌, ◌≡◌, List, sym, ap, Bool, true, false, ◌&&◌, not, nat_eq, lt-ltb, le-ltb}
 use Rattle.refusals.specs.Refusals.{Ruling, ruling, passed, refusal}
-use Rattle.refusals.specs.declared.verdict.Refusal.{Refusal}
-use Rattle.refusals.proofs.Refusals.{refusal_not_zero}
+use Rattle.refusals.specs.declared.refusal.Refusal.{Refusal}
+use Rattle.refusals.proofs.Refusals.{refusal_not_zero, handed_on}
 use Rattle.outline.specs.Outline.{size}
 use Rattle.outline.specs.Rules.{most_records}
 use Rattle.outline.specs.Answer.{size_rows, record_rows}
@@ -62,40 +62,40 @@ few o e = (sizes_formed o (none-given e)).2
 pub returns-then-way : goal.returns-then-way
 returns-then-way c = row1-holds _ c.if-way.true
 
-pub returns-in-Refused : goal.returns-in-Refused
-returns-in-Refused c = rw c.in-Refused.is (sizes-hold _ c.if-way.false _ c.in-Refused.ensures)
+pub returns-in_err-check_size : goal.returns-in_err-check_size
+returns-in_err-check_size c = rw (handed_on _ c.from_residual.ensures.1) (sizes-hold _ c.if-way.false _ c.in_err-check_size.ensures)
 
 pub returns-then-count-gt-MOST_COUNT : goal.returns-then-count-gt-MOST_COUNT
-returns-then-count-gt-MOST_COUNT c = row4-holds _ c.if-way.false c.in_default.ensures c.if-count-gt-MOST_COUNT.true
+returns-then-count-gt-MOST_COUNT c = row4-holds _ c.if-way.false c.in_ok-check_size.ensures c.if-count-gt-MOST_COUNT.true
 
-pub check_records-records-requires : goal.check_records-records-requires
-check_records-records-requires c = few _ c.in_default.ensures
+pub check_records-requires : goal.check_records-requires
+check_records-requires c = few _ c.in_ok-check_size.ensures
 
-pub returns-in-Refused-records : goal.returns-in-Refused-records
-returns-in-Refused-records c =
-    rw c.in-Refused-records.is
-    (records-hold _ c.if-way.false c.in_default.ensures c.if-count-gt-MOST_COUNT.false _ c.in-Refused-records.ensures)
+pub returns-in_err-check_records : goal.returns-in_err-check_records
+returns-in_err-check_records c =
+    rw (handed_on _ c.from_residual-in_err-check_records.ensures.1)
+    (records-hold _ c.if-way.false c.in_ok-check_size.ensures c.if-count-gt-MOST_COUNT.false _ c.in_err-check_records.ensures)
 
 pub work_taken-requires : goal.work_taken-requires
-work_taken-requires c = record { records = few _ c.in_default.ensures; columns = c.if-count-gt-MOST_COUNT.false }
+work_taken-requires c = record { records = few _ c.in_ok-check_size.ensures; columns = c.if-count-gt-MOST_COUNT.false }
 
 pub returns-then-marks_short-curve_short : goal.returns-then-marks_short-curve_short
 unfolding too_short
 returns-then-marks_short-curve_short c =
-    row9-holds _ c.if-way.false c.in_default.ensures c.if-count-gt-MOST_COUNT.false c.in_default-records.ensures
+    row9-holds _ c.if-way.false c.in_ok-check_size.ensures c.if-count-gt-MOST_COUNT.false c.in_ok-check_records.ensures
     (rw c.work_taken.ensures at c.if-marks_short-curve_short.true)
 
 pub locked_cost-requires : goal.locked_cost-requires
-locked_cost-requires c = rows_kept _ (none-given c.in_default.ensures) (none-given c.in_default-records.ensures)
+locked_cost-requires c = rows_kept _ (none-given c.in_ok-check_size.ensures) (none-given c.in_ok-check_records.ensures)
 
 pub returns-then-count-locked_cost : goal.returns-then-count-locked_cost
 unfolding too_short
 returns-then-count-locked_cost c =
-    row12-holds _ c.if-way.false c.in_default.ensures c.if-count-gt-MOST_COUNT.false c.in_default-records.ensures
+    row12-holds _ c.if-way.false c.in_ok-check_size.ensures c.if-count-gt-MOST_COUNT.false c.in_ok-check_records.ensures
     (rw c.work_taken.ensures at c.if-marks_short-curve_short.false) c.locked_cost.ensures c.if-count-locked_cost.true
 
 pub returns : goal.returns
 unfolding too_short
 returns c =
-    none-holds _ c.if-way.false c.in_default.ensures c.if-count-gt-MOST_COUNT.false c.in_default-records.ensures
+    none-holds _ c.if-way.false c.in_ok-check_size.ensures c.if-count-gt-MOST_COUNT.false c.in_ok-check_records.ensures
     (rw c.work_taken.ensures at c.if-marks_short-curve_short.false) c.locked_cost.ensures c.if-count-locked_cost.false

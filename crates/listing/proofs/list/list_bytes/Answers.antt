@@ -2,11 +2,10 @@
 -- and from the sheet of its marks.
 use Rattle.std.proofs.Common.{◌≡◌, true, ℕ, ◌+◌, ◌*◌, ◌-◌, ◌≤◌, List, [], ◌∷◌, length, take, drop, arith, refl, ap, ◌∙◌}
 use Rattle.refusals.specs.Refusals.{refusal}
-use Rattle.refusals.specs.declared.verdict.Refusal.{Refusal}
+use Rattle.refusals.specs.declared.refusal.Refusal.{Refusal}
 use Rattle.refusals.proofs.Refusals.{refusal_numbered}
 use Rattle.outline.specs.Outline.{short}
 use Rattle.choice.specs.Answer.{Call, Answered, told, is_selected}
-use Rattle.choice.specs.declared.answer.Answer.{Answer}
 use Rattle.choice.proofs.Answers.{selected_solvable}
 use Rattle.listing.specs.FromBuffers.{whole_text, Listed}
 use Rattle.listing.specs.Printed.{call_with, call_of, refusal_text, answer_text}
@@ -25,7 +24,7 @@ module _ (bytes : List ℕ) {count way : ℕ} (n : count ≡ short bytes 0) (w :
   made : answer_text (call bytes count way) ≡ answer_text (call_of bytes)
   made = ap answer_text (call_made bytes refl n w)
 
-  refusal-printed : (e : Refusal) {marks curve work : List ℕ} → Answered (call bytes count way) (told (Answer.Refused e)) marks curve work
+  refusal-printed : (e : Refusal) {marks curve work : List ℕ} → Answered (call bytes count way) (told (Err e)) marks curve work
       → refusal_text (refusal e) ≡ answer_text (call_of bytes)
   refusal-printed e x = refused_text (call bytes count way) (refusal e) (refusal_numbered e) x.told_reply ∙ made
 

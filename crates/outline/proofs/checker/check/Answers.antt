@@ -1,8 +1,7 @@
 -- `outline::checker::check` meets its contract: the rows on the size come first.
 use Rattle.std.proofs.Common.{sym, ap}
-use Rattle.std.proofs.lemmas.Result.{err_from_is_err_and}
 use Rattle.refusals.specs.Refusals.{Ruling}
-use Rattle.refusals.proofs.Refusals.{refusal_not_zero}
+use Rattle.refusals.proofs.Refusals.{refusal_not_zero, handed_on}
 use Rattle.outline.specs.Answer.{checked}
 use Rattle.outline.proofs.WellFormed.{sizes_formed}
 use Rattle.outline.proofs.checker.check.Goals as goal
@@ -14,8 +13,7 @@ check_records-requires c = (sizes_formed _ (sym (ap (λ (t : Ruling). t.number) 
 pub returns-in_err-check_size : goal.returns-in_err-check_size
 unfolding checked
 returns-in_err-check_size c =
-    let p = err_from_is_err_and c.from_residual.result c.from_residual.ensures.1 in
-    rw (p.1, p.2) (simp (← c.in_err-check_size.ensures, refusal_not_zero))
+    rw (handed_on _ c.from_residual.ensures.1) (simp (← c.in_err-check_size.ensures, refusal_not_zero))
 
 pub returns : goal.returns
 unfolding checked

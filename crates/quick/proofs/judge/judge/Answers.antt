@@ -1,8 +1,8 @@
 -- `quick::judge::judge` meets its contract: the rows that passed leave the answer to the next one.
 use Rattle.std.proofs.Common.{ℕ, ◌<◌, ◌≤◌, ◌≡◌, length, ltb, sym, ap, lt-ltb, le-ltb}
 use Rattle.refusals.specs.Refusals.{Ruling, ruling, passed, refusal, ◌▸◌, row}
-use Rattle.refusals.specs.declared.verdict.Refusal.{Refusal}
-use Rattle.refusals.proofs.Refusals.{refusal_not_zero}
+use Rattle.refusals.specs.declared.refusal.Refusal.{Refusal}
+use Rattle.refusals.proofs.Refusals.{refusal_not_zero, handed_on}
 use Rattle.outline.specs.Outline.{size}
 use Rattle.outline.specs.Answer.{size_rows, record_rows}
 use Rattle.outline.proofs.WellFormed.{sizes_formed, rows_kept}
@@ -66,38 +66,38 @@ module _ (k : Call) where
 none-given : {t : Ruling} → passed ≡ t → t.number ≡ 0
 none-given e = ap (λ (t : Ruling). t.number) (sym e)
 
-pub returns-in-Refused : goal.returns-in-Refused
+pub returns-in_err-check_size : goal.returns-in_err-check_size
 unfolding judged
-returns-in-Refused c = rw (c.in-Refused.is, ← c.in-Refused.ensures, refusal_not_zero)
+returns-in_err-check_size c = rw (handed_on _ c.from_residual.ensures.1, ← c.in_err-check_size.ensures, refusal_not_zero)
 
 pub returns-then-count-gt-MOST_COUNT : goal.returns-then-count-gt-MOST_COUNT
-returns-then-count-gt-MOST_COUNT c = row4-holds _ c.in_default.ensures c.if-count-gt-MOST_COUNT.true
+returns-then-count-gt-MOST_COUNT c = row4-holds _ c.in_ok-check_size.ensures c.if-count-gt-MOST_COUNT.true
 
 pub returns-then-picks-gt-MOST_PICKS : goal.returns-then-picks-gt-MOST_PICKS
-returns-then-picks-gt-MOST_PICKS c = row15-holds _ c.in_default.ensures c.if-count-gt-MOST_COUNT.false c.if-picks-gt-MOST_PICKS.true
+returns-then-picks-gt-MOST_PICKS c = row15-holds _ c.in_ok-check_size.ensures c.if-count-gt-MOST_COUNT.false c.if-picks-gt-MOST_PICKS.true
 
-pub check_records-records-requires : goal.check_records-records-requires
-check_records-records-requires c = (sizes_formed _ (none-given c.in_default.ensures)).2
+pub check_records-requires : goal.check_records-requires
+check_records-requires c = (sizes_formed _ (none-given c.in_ok-check_size.ensures)).2
 
-pub returns-in-Refused-records : goal.returns-in-Refused-records
-returns-in-Refused-records c =
-    rw c.in-Refused-records.is
-    (records-hold _ c.in_default.ensures c.if-count-gt-MOST_COUNT.false c.if-picks-gt-MOST_PICKS.false _ c.in-Refused-records.ensures)
+pub returns-in_err-check_records : goal.returns-in_err-check_records
+returns-in_err-check_records c =
+    rw (handed_on _ c.from_residual-in_err-check_records.ensures.1)
+    (records-hold _ c.in_ok-check_size.ensures c.if-count-gt-MOST_COUNT.false c.if-picks-gt-MOST_PICKS.false _ c.in_err-check_records.ensures)
 
 pub returns-then-marks-outline : goal.returns-then-marks-outline
 returns-then-marks-outline c =
-    row9-holds _ c.in_default.ensures c.if-count-gt-MOST_COUNT.false c.if-picks-gt-MOST_PICKS.false c.in_default-records.ensures
+    row9-holds _ c.in_ok-check_size.ensures c.if-count-gt-MOST_COUNT.false c.if-picks-gt-MOST_PICKS.false c.in_ok-check_records.ensures
     c.if-marks-outline.true
 
 pub locked_cost-requires : goal.locked_cost-requires
-locked_cost-requires c = rows_kept _ (none-given c.in_default.ensures) (none-given c.in_default-records.ensures)
+locked_cost-requires c = rows_kept _ (none-given c.in_ok-check_size.ensures) (none-given c.in_ok-check_records.ensures)
 
 pub returns-then-count-locked_cost : goal.returns-then-count-locked_cost
 returns-then-count-locked_cost c =
-    row12-holds _ c.in_default.ensures c.if-count-gt-MOST_COUNT.false c.if-picks-gt-MOST_PICKS.false c.in_default-records.ensures
+    row12-holds _ c.in_ok-check_size.ensures c.if-count-gt-MOST_COUNT.false c.if-picks-gt-MOST_PICKS.false c.in_ok-check_records.ensures
     c.if-marks-outline.false c.locked_cost.ensures c.if-count-locked_cost.true
 
 pub returns : goal.returns
 returns c =
-    none-holds _ c.in_default.ensures c.if-count-gt-MOST_COUNT.false c.if-picks-gt-MOST_PICKS.false c.in_default-records.ensures
+    none-holds _ c.in_ok-check_size.ensures c.if-count-gt-MOST_COUNT.false c.if-picks-gt-MOST_PICKS.false c.in_ok-check_records.ensures
     c.if-marks-outline.false c.locked_cost.ensures c.if-count-locked_cost.false

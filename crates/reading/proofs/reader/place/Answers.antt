@@ -1,6 +1,7 @@
 -- `reading::reader::place` meets its contract: each way out is a row, or none holds.
 use Rattle.std.proofs.Common.{sym, ◌∙◌}
 use Rattle.lists.specs.Lists.{over, over_at}
+use Rattle.refusals.proofs.Refusals.{handed_on}
 use Rattle.reading.proofs.Answers.{placed_bad, placed_short, placed_refused, placed_read}
 use Rattle.reading.proofs.reader.place.Goals as goal
 
@@ -10,13 +11,13 @@ returns-then-bad_pairs c = placed_bad _ _ _ (sym c.bad_pairs.ensures ∙ c.if-ba
 pub returns-then-outline-o : goal.returns-then-outline-o
 returns-then-outline-o c = placed_short _ _ _ (sym c.bad_pairs.ensures ∙ c.if-bad_pairs.false) c.if-outline-o.true
 
-pub returns-in-Refused : goal.returns-in-Refused
-returns-in-Refused c =
-    placed_refused _ _ _ (sym c.bad_pairs.ensures ∙ c.if-bad_pairs.false) c.if-outline-o.false c.in-Refused.refusal
-    c.check_records.ensures c.in-Refused.is
+pub returns-in_err-check_records : goal.returns-in_err-check_records
+returns-in_err-check_records c =
+    rw (handed_on _ c.from_residual.ensures.1)
+    (placed_refused _ _ _ (sym c.bad_pairs.ensures ∙ c.if-bad_pairs.false) c.if-outline-o.false _ c.in_err-check_records.ensures)
 
-pub returns-in-Accepted : goal.returns-in-Accepted
+pub returns : goal.returns
 unfolding over over_at
-returns-in-Accepted c =
-    placed_read _ _ _ (sym c.bad_pairs.ensures ∙ c.if-bad_pairs.false) c.if-outline-o.false c.check_records.ensures
-    c.in-Accepted.is c.put_text.ensures.buffer_is
+returns c =
+    placed_read _ _ _ (sym c.bad_pairs.ensures ∙ c.if-bad_pairs.false) c.if-outline-o.false c.in_ok-check_records.ensures
+    c.put_text.ensures.buffer_is

@@ -1,8 +1,8 @@
 -- `sheet::judge::judge` meets its contract: the rows that passed leave the answer to the next one.
-use Rattle.std.proofs.Common.{◌≡◌, ◌≤◌, false, ◌&&◌, not, eqb, ltb, length, arith, sym, ◌∙◌, lt-ltb, le-ltb, ne_eqb}
-use Rattle.lists.specs.Lists.{lowest}
+use Rattle.std.proofs.Common.{◌≡◌, ◌≤◌, None, false, ◌&&◌, not, eqb, ltb, length, arith, refl, lt-ltb, le-ltb}
+use Rattle.lists.specs.Lists.{lowest, nonzero}
 use Rattle.refusals.specs.Refusals.{Ruling, passed, ◌▸◌, row, row_at}
-use Rattle.refusals.proofs.Refusals.{refusal_not_zero}
+use Rattle.refusals.proofs.Refusals.{refusal_not_zero, handed_on, row_at_found, row_at_passed}
 use Rattle.outline.specs.Outline.{size, records}
 use Rattle.outline.specs.Answer.{checked}
 use Rattle.outline.proofs.WellFormed.{accepted_formed}
@@ -14,11 +14,10 @@ pub returns-then-way : goal.returns-then-way
 unfolding judged
 returns-then-way c = simp c.if-way.true
 
-pub returns-in-Refused : goal.returns-in-Refused
+pub returns-in_err-check : goal.returns-in_err-check
 unfolding judged
-returns-in-Refused c =
-    let number : eqb (checked c.args.outline.now).number 0 ≡ false = rw (← c.in-Refused.ensures) (refusal_not_zero c.in-Refused.field-0) in
-    simp (c.if-way.false, number) c.check-checked.ensures
+returns-in_err-check c =
+    rw (handed_on _ c.from_residual.ensures.1) (simp (c.if-way.false, ← c.in_err-check.ensures, refusal_not_zero))
 
 -- the rows that are left where row 1 and the check's passed, and then those of row 14
 module _ (c : Call) where
@@ -37,35 +36,33 @@ module _ (c : Call) where
       passedMarks : afterMarks ≡ judged c
       passedMarks = simp (le-ltb (length c.marks) (size c.outline) long) at passed8
 
-      passed14 : lowest (bad_mark c.outline c.marks) (records c.outline) ≡ 0 → after14 ≡ judged c
+      passed14 : None ≡ nonzero (lowest (bad_mark c.outline c.marks) (records c.outline)) → after14 ≡ judged c
       unfolding records
-      passed14 none = simp none at passedMarks
+      passed14 none = simp (row_at_passed 14 (bad_mark c.outline c.marks) (size c.outline) refl none) at passedMarks
 
 pub returns-then-marks-outline : goal.returns-then-marks-outline
 returns-then-marks-outline c =
     let a = call c.args.outline.now c.args.way c.args.marks.now c.args.sheet.now in
-    simp (lt-ltb (length a.marks) (size a.outline) c.if-marks-outline.true) at (passed8 a c.if-way.false c.in_default.ensures)
+    simp (lt-ltb (length a.marks) (size a.outline) c.if-marks-outline.true) at (passed8 a c.if-way.false c.in_ok-check.ensures)
 
-pub returns-then-place-ne0 : goal.returns-then-place-ne0
+pub returns-in-Some : goal.returns-in-Some
 unfolding records
-returns-then-place-ne0 c =
+returns-in-Some c =
     let a = call c.args.outline.now c.args.way c.args.marks.now c.args.sheet.now in
-    simp (← c.bad_mark_at-place.ensures, ne_eqb c.bad_mark_at-place.result 0 c.if-place-ne0.true)
-    at (passedMarks a c.if-way.false c.in_default.ensures c.if-marks-outline.false)
+    simp (row_at_found 14 (bad_mark a.outline a.marks) (size a.outline) refl c.in-Some.ensures)
+    at (passedMarks a c.if-way.false c.in_ok-check.ensures c.if-marks-outline.false)
 
 pub marked-requires : goal.marked-requires
-marked-requires c = record { formed = accepted_formed _ (rw (← c.in_default.ensures)); marks_long = c.if-marks-outline.false }
+marked-requires c = record { formed = accepted_formed _ (rw (← c.in_ok-check.ensures)); marks_long = c.if-marks-outline.false }
 
 pub returns-then-sheet-marked : goal.returns-then-sheet-marked
 returns-then-sheet-marked c =
     let a = call c.args.outline.now c.args.way c.args.marks.now c.args.sheet.now in
-    let none = sym c.bad_mark_at-place.ensures ∙ c.if-place-ne0.false in
     simp (lt-ltb (length a.sheet) (sheet_taken a) (omega (arith, c.marked.ensures.taxa_is, taxa_whole a.marks a.outline)))
-    at (passed14 a c.if-way.false c.in_default.ensures c.if-marks-outline.false none)
+    at (passed14 a c.if-way.false c.in_ok-check.ensures c.if-marks-outline.false c.in_default.ensures)
 
 pub returns : goal.returns
 returns c =
     let a = call c.args.outline.now c.args.way c.args.marks.now c.args.sheet.now in
-    let none = sym c.bad_mark_at-place.ensures ∙ c.if-place-ne0.false in
     simp (le-ltb (length a.sheet) (sheet_taken a) (omega (arith, c.marked.ensures.taxa_is, taxa_whole a.marks a.outline)))
-    at (passed14 a c.if-way.false c.in_default.ensures c.if-marks-outline.false none)
+    at (passed14 a c.if-way.false c.in_ok-check.ensures c.if-marks-outline.false c.in_default.ensures)

@@ -2,6 +2,7 @@
 use Rattle.std.proofs.Common.{arith, sym, ap}
 use Rattle.lists.specs.Lists.{over, over_at}
 use Rattle.refusals.specs.Refusals.{Ruling}
+use Rattle.refusals.proofs.Refusals.{handed_on}
 use Rattle.view.specs.Answer.{call}
 use Rattle.view.specs.View.{house_view}
 use Rattle.view.proofs.Answers.{outline_formed, view_suffices, shown_answered, refused_answered}
@@ -10,12 +11,12 @@ use Rattle.view.proofs.house.view_house.Goals as goal
 pub put_text-requires : goal.put_text-requires
 put_text-requires c =
     let d = call c.args.outline.now c.args.view.now in
-    let z = ap (λ (t : Ruling). t.number) (sym c.in-Accepted.ensures) in
+    let z = ap (λ (t : Ruling). t.number) (sym c.in_ok-judge.ensures) in
     omega (arith, view_suffices d z, (outline_formed d z).whole)
 
-pub returns-in-Refused : goal.returns-in-Refused
-returns-in-Refused c = refused_answered _ house_view c.in-Refused.refusal c.in-Refused.ensures
+pub returns-in_err-judge : goal.returns-in_err-judge
+returns-in_err-judge c = rw (handed_on _ c.from_residual.ensures.1) (refused_answered _ house_view _ c.in_err-judge.ensures)
 
-pub returns-in-Accepted : goal.returns-in-Accepted
+pub returns : goal.returns
 unfolding over over_at
-returns-in-Accepted c = shown_answered _ house_view c.in-Accepted.ensures c.put_text.ensures.buffer_is
+returns c = shown_answered _ house_view c.in_ok-judge.ensures c.put_text.ensures.buffer_is
