@@ -1,8 +1,8 @@
 // The line that is printed for a case.
 ghost use Rattle.std.specs.Prelude.{◌+◌, ◌*◌, ◌<◌, ◌≤◌, length};
 
-use choice::{Answer, choose};
-use refusals::verdict::Refusal;
+use choice::choose;
+use refusals::Refusal;
 use samples::outlines::{Buffer, first_bytes};
 use samples::words::{Output, say, say_number, say_pair, say_refusal};
 use std::num::wrapping_add_usize;
@@ -167,17 +167,12 @@ fn answer(
     say(out, label);
     say(out, b": ");
     match choose(o, count, way, marks, curve, work) {
-        Answer::Refused(refusal) => say_refused(out, refusal, marks, curve, work),
-        Answer::Selected {
-            diversity,
-            cost,
-            taxa,
-            spare,
-        } => {
+        Err(refusal) => say_refused(out, refusal, marks, curve, work),
+        Ok(f) => {
             say(out, b"0 0 ");
-            say_pair(out, diversity as u64, cost as usize);
+            say_pair(out, f.diversity as u64, f.cost as usize);
             say(out, b" ");
-            say_pair(out, taxa as u64, spare as usize);
+            say_pair(out, f.taxa as u64, f.spare as usize);
             say_written(out, o.len() / 16, count, marks, curve, work);
         }
     }

@@ -6,8 +6,8 @@ use super::exhaustive::{NONE, Sets, Worth, cost_at, diversity_at, incumbents, we
 use super::fields::{first, has_heading, length, next, plate, price};
 use super::sets::{Row, below, cost, locked_set, set_of, sets_of};
 use super::tally::Tally;
-use choice::{Answer, choose};
-use refusals::verdict::{number_of, place_of};
+use choice::{Figures, choose};
+use refusals::Refusal;
 use samples::outlines::{Buffer, first_bytes};
 use samples::words::{Output, say, say_number, say_pair};
 use std::num::wrapping_sub_u32;
@@ -67,26 +67,21 @@ fn compare_marks(out: &mut Output, marks: &Marks, n: usize, count: u32, set: &Ro
 // The four numbers of an answer. The spare is page count minus cost.
 fn compare_answer(
     out: &mut Output,
-    answer: Answer,
+    answer: Result<Figures, Refusal>,
     count: u32,
     diversity: u32,
     cost: u32,
     taxa: u32,
 ) -> Tally {
     match answer {
-        Answer::Refused(_) => Tally::none().with(out, b"refused", count, 0, 0, 1),
-        Answer::Selected {
-            diversity: d,
-            cost: c,
-            taxa: t,
-            spare: s,
-        } => {
+        Err(_) => Tally::none().with(out, b"refused", count, 0, 0, 1),
+        Ok(f) => {
             let worth = Tally::none()
-                .with(out, b"diversity", count, 0, diversity, d)
-                .with(out, b"cost", count, 0, cost, c);
+                .with(out, b"diversity", count, 0, diversity, f.diversity)
+                .with(out, b"cost", count, 0, cost, f.cost);
             worth
-                .with(out, b"taxa", count, 0, taxa, t)
-                .with(out, b"spare", count, 0, wrapping_sub_u32(count, cost), s)
+                .with(out, b"taxa", count, 0, taxa, f.taxa)
+                .with(out, b"spare", count, 0, wrapping_sub_u32(count, cost), f.spare)
         }
     }
 }
@@ -94,17 +89,17 @@ fn compare_answer(
 // A call that no set fits: refusal 12, and nothing written.
 fn compare_refused(
     out: &mut Output,
-    answer: Answer,
+    answer: Result<Figures, Refusal>,
     count: u32,
     marks: &Marks,
     curve: &Curve,
     work: &Work,
 ) -> Tally {
     let told = match answer {
-        Answer::Refused(refusal) => Tally::none()
-            .with(out, b"refusal", count, 0, 12, number_of(refusal))
-            .with(out, b"place", count, 0, 0, (place_of(refusal) != 0) as u32),
-        Answer::Selected { .. } => Tally::none().with(out, b"refusal", count, 0, 12, 0),
+        Err(refusal) => Tally::none()
+            .with(out, b"refusal", count, 0, 12, refusal.number())
+            .with(out, b"place", count, 0, 0, (refusal.place() != 0) as u32),
+        Ok(_) => Tally::none().with(out, b"refusal", count, 0, 12, 0),
     };
     told.plus(compare_rest(out, Written::nothing(), count, marks, curve, work))
         .with_refusal()

@@ -12,7 +12,8 @@ use Rattle.outline.specs.Answer.{size_rows}
 use Rattle.diversity.specs.Diversity.{diversity, cost as cost_with_headings, chosen_taxa}
 use Rattle.diversity.specs.Headings.{prices_chosen}
 use Rattle.diversity.specs.Search.{subsets, leads, Incumbent, nothing, holding, set_of}
-use Rattle.choice.specs.Answer.{Call, Figures, no_figures, most_count, work_taken, too_short, columns}
+use Rattle.choice.specs.declared.answer.Figures.{Figures}
+use Rattle.choice.specs.Answer.{Call, no_figures, most_count, work_taken, too_short, columns}
 use Rattle.outline.specs.Rules.{bad_link, taxa, most_taxa}
 
 -- bytes 12 to 15: the plate's number

@@ -1,5 +1,6 @@
 -- What an answer's numbers, the curve and the sheet print is what the call prints; and that the total is the first line's cost and
 -- diversity.
+use Rattle.std.specs.Prelude.{Result, Ok, Err, IsOk}
 use Prim.Native.Nat.{ℕ, zero, suc, ◌+◌, ◌*◌, ◌-◌, ◌≤◌, ◌<◌}
 use mathlib.Core.Path.{◌≡◌, refl, sym, ap, ap₂, ◌∙◌}
 use mathlib.Core.Bool.{Bool, true, false}
@@ -19,13 +20,13 @@ use Rattle.diversity.specs.Diversity.{chosen, chosen_taxa}
 use Rattle.diversity.specs.Behind.{IsSet}
 use Rattle.laws.proofs.Optimum.{optimum_set}
 use Rattle.laws.proofs.Prefixes.{taxa_step, taxa_nothing}
-use Rattle.choice.specs.Answer.{Call, Figures, no_figures, told, judged, is_selected, best_set, figures, reply, curve_of, marks_after, curve_after}
+use Rattle.choice.specs.declared.answer.Figures.{Figures}
+use Rattle.choice.specs.Answer.{Call, no_figures, told, judged, is_selected, best_set, figures, reply, curve_of, marks_after, curve_after}
 use Rattle.choice.proofs.Answers.{way_known, selected_accepted, selected_solvable}
 use Rattle.choice.proofs.Solving.{curve_diversity, curve_cost}
 use Rattle.sheet.specs.Answer as sheets
 use Rattle.sheet.specs.declared.answer.Figures.{Figures as SheetFigures}
 use Rattle.sheet.specs.Sheet.{row_of, rows_of}
-use Rattle.sheet.specs.declared.answer.Answer.{Answer as Listing}
 use Rattle.sheet.proofs.Answers.{set_long, listable}
 use Rattle.sheet.proofs.Demands.{set_listed}
 use Rattle.sheet.proofs.Sums.{quarters_sum, diversity_sum, row_over, set_few}
@@ -125,10 +126,11 @@ module _ (c : sheets.Call) {r : Reply SheetFigures} {lent : List ℕ} (x : sheet
   unfolding sheets.figures
   rows_inside = rw told_listing (listable c passes).room
 
--- a call of `sheet` that is not refused is answered with rows
-pub not_refused : (c : sheets.Call) {lent : List ℕ} (e : Refusal) → sheets.Answered c (sheets.told (Listing.Refused e)) lent
-    → (sheets.judged c).number ≡ 0 → ⊥
-not_refused c e x passes = granted_apart e (sym (told_listing c x passes))
+-- a call of `sheet` that no row refuses is answered with rows
+pub not_refused : (c : sheets.Call) (r : Result SheetFigures Refusal) {lent : List ℕ} → sheets.Answered c (sheets.told r) lent
+    → (sheets.judged c).number ≡ 0 → IsOk r
+not_refused c (Ok f) x passes = refl
+not_refused c (Err e) x passes = absurd (granted_apart sheets.no_figures (sheets.figures c) e (sym (told_listing c x passes)))
 
 -- ---- a selection
 module _ (c : Call) (e : is_selected c ≡ true) where
@@ -151,21 +153,20 @@ module _ (c : Call) (e : is_selected c ≡ true) where
         set_listed (sheets.call c.outline c.way marks (replicate 192 0)) (selected_accepted c e) (way_known c e) (rw set_marked best)
         (rw set_marked (omega (arith, set_few c.outline (best_set c) best, (selected_solvable c e).formed.taxa_most, length-replicate {A = ℕ} 192 0)))
 
-module _ (c : Call) (d k t s : ℕ) (e : told (Answer.Selected d k t s) ≡ reply c) where
+module _ (c : Call) (f : Figures) (e : told (Ok f) ≡ reply c) where
   pub is_selected_lem : is_selected c ≡ true
   unfolding reply
   is_selected_lem = eq-eqb _ _ (told_passed _ _ _ (sym (ap (λ (r : Reply Figures). r.number) e)))
 
-  told_is : told (Answer.Selected d k t s) ≡ granted (figures c)
+  figures_are : f ≡ figures c
   unfolding reply
-  told_is = e ∙ rw is_selected_lem
+  figures_are =
+      let is : granted f ≡ granted (figures c) = e ∙ rw is_selected_lem in
+      ap (λ (r : Reply Figures). r.figures) is
 
   pub selected_text : {marks curve : List ℕ} → marks ≡ marks_after c → curve ≡ curve_after c
-      → whole_text (c.count ∷ c.way ∷ d ∷ k ∷ t ∷ []) curve (c.count + 1) c.outline c.way marks ≡ answer_text c
+      → whole_text (c.count ∷ c.way ∷ f.diversity ∷ f.cost ∷ f.taxa ∷ []) curve (c.count + 1) c.outline c.way marks ≡ answer_text c
   unfolding answer_text selection_text first_line curve_after
   selected_text {marks} {curve} m v =
       let v' : curve ≡ over (curve_of c) c.curve = rw is_selected_lem at v in
-      let a : d ≡ (figures c).diversity = ap (λ (r : Reply Figures). r.figures.diversity) told_is in
-      let b : k ≡ (figures c).cost = ap (λ (r : Reply Figures). r.figures.cost) told_is in
-      let n : t ≡ (figures c).taxa = ap (λ (r : Reply Figures). r.figures.taxa) told_is in
-      rw (is_selected_lem, set_marked c is_selected_lem m, v', columns_text_lem c c.curve, a, b, n)
+      rw (is_selected_lem, set_marked c is_selected_lem m, v', columns_text_lem c c.curve, figures_are)

@@ -7,7 +7,7 @@ ghost use Rattle.listing.specs.Printed.{call_of, answer_text, printed};
 use super::columns::put_columns;
 use super::refusal::put_refusal;
 use super::taxa::put_sheet;
-use choice::{Answer, choose};
+use choice::choose;
 use outline::fields::short_at;
 use refusals::Refusal;
 use text::put_line;
@@ -46,21 +46,15 @@ fn list_bytes(buffer: &mut [u8], bytes: &[u8]) -> usize
     let count = short_at(bytes, 0) as u32;
     let way = short_at(bytes, 2) as u32;
     let outline = &bytes[4..];
-    let answer = choose(outline, count, way, &mut marks, &mut curve, &mut work);
-    match answer {
+    match choose(outline, count, way, &mut marks, &mut curve, &mut work) {
         Err(refusal) => put_refusal(buffer, refusal),
-        Answer::Selected {
-            diversity,
-            cost,
-            taxa,
-            spare: _,
-        } => {
+        Ok(f) => {
             let first = [
                 count as u64,
                 way as u64,
-                diversity as u64,
-                cost as u64,
-                taxa as u64,
+                f.diversity as u64,
+                f.cost as u64,
+                f.taxa as u64,
             ];
             put_selection(
                 buffer,

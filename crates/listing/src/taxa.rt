@@ -5,7 +5,7 @@ ghost use Rattle.text.specs.Written.{LongEnough, Written};
 ghost use Rattle.listing.specs.FromBuffers.{taxon_text, taxa_text, Listed};
 ghost use Rattle.listing.specs.Printed.{sheet_text};
 
-use sheet::{Answer, sheet};
+use sheet::sheet;
 use text::{put_labelled, put_line};
 
 // Row k: plate, quarters added, diversity added.
@@ -41,20 +41,8 @@ pub fn put_sheet(buffer: &mut [u8], at: usize, o: &[u8], way: u32, marks: &[u8])
         buffer.old buffer.new result }
 {
     let mut lent = [0u32; 192];
-    match sheet(o, way, marks, &mut lent) {
-        Answer::Listed {
-            rows,
-            quarters,
-            diversity,
-        } => {
-            let total = put_taxa(buffer, at, &lent, rows as usize);
-            put_labelled(
-                buffer,
-                total,
-                b"total",
-                &[quarters as u64, diversity as u64],
-            )
-        }
-        Err(_) => at,
-    }
+    let sums = sheet(o, way, marks, &mut lent).unwrap();
+    let total = put_taxa(buffer, at, &lent, sums.rows as usize);
+    let numbers = [sums.quarters as u64, sums.diversity as u64];
+    put_labelled(buffer, total, b"total", &numbers)
 }

@@ -4,7 +4,7 @@ ghost use Rattle.outline.specs.Outline.{IsRecord};
 
 use super::texts::{Pairs, Text, first_bytes, first_numbers};
 use outline::fields::{branch_of, first_of, next_of, plate_of, price_of};
-use reading::{Answer, read};
+use reading::read;
 use samples::words::{Output, say, say_number, say_pair, say_refusal};
 use std::num::wrapping_add_usize;
 
@@ -93,15 +93,15 @@ fn say_wrong(out: &mut Output, outline: &[u8], records: usize) {
 fn answer(out: &mut Output, text: &[u8], pairs: &[u32], outline: &mut [u8]) {
     say(out, b": ");
     match read(text, pairs, outline) {
-        Answer::Refused(refusal) => {
+        Err(refusal) => {
             say_refusal(out, refusal);
             say_wrong(out, outline, 0);
         }
-        Answer::Read { records } => {
+        Ok(f) => {
             say(out, b"0 0 ");
-            say_number(out, records as u64);
-            say_records(out, outline, records);
-            say_wrong(out, outline, records);
+            say_number(out, f.records as u64);
+            say_records(out, outline, f.records);
+            say_wrong(out, outline, f.records);
         }
     }
 }

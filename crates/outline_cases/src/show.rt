@@ -2,15 +2,15 @@
 ghost use Rattle.std.specs.Prelude.{◌≤◌};
 
 use outline::fields::{branch_of, first_of, is_locked, next_of, plate_of, price_of};
-use refusals::verdict::Verdict;
+use refusals::Refusal;
 use samples::outlines::{Buffer, first_bytes, tree_a_with};
 use samples::words::{Output, say, say_number, say_pair, say_refusal};
 
 // The number and the place that the check gives, `0 0` if it accepts.
-fn say_verdict(out: &mut Output, verdict: Verdict) {
+fn say_verdict(out: &mut Output, verdict: Result<(), Refusal>) {
     match verdict {
-        Verdict::Accepted => say_pair(out, 0, 0),
-        Verdict::Refused(refusal) => say_refusal(out, refusal),
+        Ok(()) => say_pair(out, 0, 0),
+        Err(refusal) => say_refusal(out, refusal),
     }
 }
 

@@ -3,8 +3,8 @@
 // include/plates.h declares these functions.
 #![tactic(auto)]
 
-ghost use Rattle.std.specs.Prelude.{◌≡◌, ◌≤◌};
-ghost use Rattle.refusals.specs.Refusals.{ruling, told};
+ghost use Rattle.std.specs.Prelude.{◌≡◌, ◌≤◌, ◌-◌, ◌∷◌, length, replicate};
+ghost use Rattle.refusals.specs.Refusals.{ruling, refusal as told};
 ghost use Rattle.outline.specs.Answer.{checked, found_at};
 ghost use Rattle.reading.specs.Answer.{call as reading, Numbers};
 ghost use Rattle.writing.specs.Answer.{call as writing};
@@ -13,17 +13,30 @@ ghost use Rattle.quick.specs.Answer.{call as picking};
 ghost use Rattle.sheet.specs.Answer.{call as listing};
 ghost use Rattle.view.specs.Answer.{call as viewing};
 ghost use Rattle.view.specs.View.{house_view, buyer_view};
-ghost use Rattle.plates.specs.Interface.{Given, Chosen, QuicklyChosen, SheetListed, TextRead, TextWritten, ruling_in, Viewed};
+ghost use Rattle.plates.specs.Interface.{Chosen, QuicklyChosen, SheetListed, TextRead, TextWritten, Viewed};
 ghost use Rattle.outline.specs.Rules.{most_records};
 
-use choice::{Answer, choose};
+use choice::choose;
 use outline::{check, find_record};
-use quick::{Answer as Quick, quick};
-use reading::{Answer as Reading, read};
-use refusals::verdict::{Verdict, number_of, place_of};
-use sheet::{Answer as Listing, sheet as list};
+use quick::quick;
+use reading::read;
+use refusals::Refusal;
+use sheet::sheet as list;
 use view::{view_buyer, view_house};
-use writing::{Answer as Writing, write};
+use writing::write;
+
+// Writes the number and the place of a refusal, and 0 for each of the figures; gives the number.
+fn refuse(refusal: Refusal, answer: &mut [u32]) -> u32
+    requires room { 2 ≤ length answer.old }
+    requires placed { (told refusal).place ≤ most_records }
+    ensures written { answer.new ≡ (told refusal).number ∷ (told refusal).place ∷ replicate (length answer.old - 2) 0 }
+    ensures number { result ≡ (told refusal).number }
+{
+    answer.fill(0);
+    answer[0] = refusal.number();
+    answer[1] = refusal.place() as u32;
+    answer[0]
+}
 
 // 0, or the number of the first row of the table that refuses an outline; writes its place.
 #[unsafe(no_mangle)]
@@ -31,13 +44,13 @@ pub extern "C" fn plates_check(outline: &[u8], place: &mut u32) -> u32
     ensures { ruling result place.new ≡ checked outline.now }
 {
     match check(outline) {
-        Verdict::Accepted => {
+        Ok(()) => {
             *place = 0;
             0
         }
-        Verdict::Refused(refusal) => {
-            *place = place_of(refusal) as u32;
-            number_of(refusal)
+        Err(refusal) => {
+            *place = refusal.place() as u32;
+            refusal.number()
         }
     }
 }
@@ -47,7 +60,10 @@ pub extern "C" fn plates_check(outline: &[u8], place: &mut u32) -> u32
 pub extern "C" fn plates_find(outline: &[u8], plate: u32) -> u32
     ensures { result ≡ found_at outline.now plate }
 {
-    find_record(outline, plate) as u32
+    match find_record(outline, plate) {
+        None => 0,
+        Some(r) => r as u32,
+    }
 }
 
 // Chooses, and writes number, place, diversity, cost, number of taxa and spare; the number is given as well.
@@ -66,20 +82,11 @@ pub extern "C" fn plates_choose(
         result answer.new marks.new curve.new work.new }
 {
     match choose(outline, count, way, marks, curve, work) {
-        Answer::Selected {
-            diversity,
-            cost,
-            taxa,
-            spare,
-        } => {
-            *answer = [0, 0, diversity, cost, taxa, spare];
+        Ok(f) => {
+            *answer = [0, 0, f.diversity, f.cost, f.taxa, f.spare];
             0
         }
-        Err(refusal) => {
-            let number = number_of(refusal);
-            *answer = [number, place_of(refusal) as u32, 0, 0, 0, 0];
-            number
-        }
+        Err(refusal) => refuse(refusal, answer),
     }
 }
 
@@ -98,22 +105,14 @@ pub extern "C" fn plates_quick(
         result answer.new ceiling.new marks.new }
 {
     match quick(outline, count, picks, marks) {
-        Quick::Chosen {
-            diversity,
-            cost,
-            taxa,
-            ceiling: most,
-        } => {
-            *answer = [0, 0, diversity, cost, taxa];
-            *ceiling = most;
+        Ok(f) => {
+            *ceiling = f.ceiling;
+            *answer = [0, 0, f.diversity, f.cost, f.taxa];
             0
         }
-        Quick::Refused(refusal) => {
-            let number = number_of(refusal);
-            let place = place_of(refusal) as u32;
-            *answer = [number, place, 0, 0, 0];
+        Err(refusal) => {
             *ceiling = 0;
-            number
+            refuse(refusal, answer)
         }
     }
 }
@@ -132,19 +131,11 @@ pub extern "C" fn plates_sheet(
         result answer.new sheet.new }
 {
     match list(outline, way, marks, sheet) {
-        Listing::Listed {
-            rows,
-            quarters,
-            diversity,
-        } => {
-            *answer = [0, 0, rows, quarters, diversity];
+        Ok(f) => {
+            *answer = [0, 0, f.rows, f.quarters, f.diversity];
             0
         }
-        Listing::Refused(refusal) => {
-            let number = number_of(refusal);
-            *answer = [number, place_of(refusal) as u32, 0, 0, 0];
-            number
-        }
+        Err(refusal) => refuse(refusal, answer),
     }
 }
 
@@ -160,15 +151,11 @@ pub extern "C" fn plates_read(
     ensures numbers { Numbers pairs.now }
 {
     match read(text, pairs, outline) {
-        Reading::Read { records } => {
-            *answer = [0, 0, records as u32];
+        Ok(f) => {
+            *answer = [0, 0, f.records as u32];
             0
         }
-        Reading::Refused(refusal) => {
-            let number = number_of(refusal);
-            *answer = [number, place_of(refusal) as u32, 0];
-            number
-        }
+        Err(refusal) => refuse(refusal, answer),
     }
 }
 
@@ -186,36 +173,11 @@ pub extern "C" fn plates_write(
         result answer.new text.new pairs.new }
 {
     match write(outline, text, pairs) {
-        Writing::Written {
-            bytes,
-            pairs: count,
-        } => {
-            *answer = [0, 0, bytes as u32, count as u32];
+        Ok(f) => {
+            *answer = [0, 0, f.bytes as u32, f.pairs as u32];
             0
         }
-        Writing::Refused(refusal) => {
-            let number = number_of(refusal);
-            *answer = [number, place_of(refusal) as u32, 0, 0];
-            number
-        }
-    }
-}
-
-// Writes the number and the place of a verdict, and gives the number.
-fn tell(verdict: Verdict, answer: &mut [u32; 2]) -> u32
-    requires { (told verdict).place ≤ most_records }
-    ensures { Given 2 ruling_in (λ t. t ≡ told verdict) result answer.new }
-{
-    match verdict {
-        Verdict::Accepted => {
-            *answer = [0, 0];
-            0
-        }
-        Verdict::Refused(refusal) => {
-            let number = number_of(refusal);
-            *answer = [number, place_of(refusal) as u32];
-            number
-        }
+        Err(refusal) => refuse(refusal, answer),
     }
 }
 
@@ -224,8 +186,13 @@ fn tell(verdict: Verdict, answer: &mut [u32; 2]) -> u32
 pub extern "C" fn plates_view_house(outline: &[u8], view: &mut [u8], answer: &mut [u32; 2]) -> u32
     ensures { Viewed house_view (viewing outline.now view.old) result answer.new view.new }
 {
-    let verdict = view_house(outline, view);
-    tell(verdict, answer)
+    match view_house(outline, view) {
+        Ok(()) => {
+            *answer = [0, 0];
+            0
+        }
+        Err(refusal) => refuse(refusal, answer),
+    }
 }
 
 // Shows an outline to a buyer's reader, without prices and locks, and writes number and place; the number is given as well.
@@ -233,6 +200,11 @@ pub extern "C" fn plates_view_house(outline: &[u8], view: &mut [u8], answer: &mu
 pub extern "C" fn plates_view_buyer(outline: &[u8], view: &mut [u8], answer: &mut [u32; 2]) -> u32
     ensures { Viewed buyer_view (viewing outline.now view.old) result answer.new view.new }
 {
-    let verdict = view_buyer(outline, view);
-    tell(verdict, answer)
+    match view_buyer(outline, view) {
+        Ok(()) => {
+            *answer = [0, 0];
+            0
+        }
+        Err(refusal) => refuse(refusal, answer),
+    }
 }

@@ -67,7 +67,7 @@ module _ {Figures : Type 0} (none : Figures) (t : Ruling) (f : Figures) where
 
 -- what is told determines an answer: a refusal is told apart from what is granted, and from every other
 module _ {Figures : Type 0} (none : Figures) where
-  granted_apart : (f : Figures) (e : Refusal) → granted f ≡ refused none (refusal e) → ⊥
+  pub granted_apart : (f : Figures) (e : Refusal) → granted f ≡ refused none (refusal e) → ⊥
   granted_apart f e h =
       let z : 0 ≡ (refusal e).number = ap (λ (r : Reply Figures). r.number) h in
       omega (arith, refusal_numbered e)

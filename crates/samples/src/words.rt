@@ -1,6 +1,6 @@
 // What a test program prints: words and numbers, kept until it ends.
 use io::decimal;
-use refusals::verdict::{Refusal, number_of, place_of};
+use refusals::Refusal;
 use std::io::Write;
 
 // The bytes to print. Those past its room are lost.
@@ -55,6 +55,5 @@ pub fn say_pair(out: &mut Output, a: u64, b: usize) {
 
 // The number and the place that the table of refusals gives.
 pub fn say_refusal(out: &mut Output, refusal: Refusal) {
-    let number = number_of(refusal);
-    say_pair(out, number as u64, place_of(refusal));
+    say_pair(out, refusal.number() as u64, refusal.place());
 }

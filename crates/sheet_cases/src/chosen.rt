@@ -2,7 +2,7 @@
 ghost use Rattle.std.specs.Prelude.{◌≤◌};
 
 use super::show::{list, say_sums};
-use choice::{Answer, choose};
+use choice::choose;
 use samples::locks::locked;
 use samples::outlines::{Buffer, comb, first_bytes, tree_a, tree_a_with_headings};
 use samples::words::{Output, say, say_number};
@@ -17,15 +17,9 @@ fn chosen(out: &mut Output, label: &[u8], buffer: Buffer, n: usize, count: u32, 
     let o = first_bytes(&buffer, 16 * n);
     say(out, label);
     say_number(out, way as u64);
-    if let Answer::Selected {
-        diversity,
-        cost,
-        taxa,
-        spare: _,
-    } = choose(o, count, way, &mut marks, &mut curve, &mut work)
-    {
+    if let Ok(f) = choose(o, count, way, &mut marks, &mut curve, &mut work) {
         say(out, b", chosen ");
-        say_sums(out, taxa, cost, diversity);
+        say_sums(out, f.taxa, f.cost, f.diversity);
         list(out, o, way, &marks, 200);
     }
 }

@@ -3,7 +3,7 @@ ghost use Rattle.std.specs.Prelude.{◌≤◌};
 
 use samples::outlines::{Buffer, first_bytes};
 use samples::words::{Output, say, say_number, say_pair, say_refusal};
-use sheet::{Answer, sheet};
+use sheet::sheet;
 use std::num::wrapping_add_usize;
 
 // What each number of the sheet holds before a call.
@@ -62,15 +62,11 @@ pub fn list(out: &mut Output, o: &[u8], way: u32, marks: &[u8], numbers: usize)
     let lent = &mut buffer[0..numbers];
     say(out, b": ");
     match sheet(o, way, marks, lent) {
-        Answer::Refused(refusal) => {
+        Err(refusal) => {
             say_refusal(out, refusal);
             say_sheet(out, lent, 0);
         }
-        Answer::Listed {
-            rows,
-            quarters,
-            diversity,
-        } => say_listed(out, rows, quarters, diversity, lent),
+        Ok(f) => say_listed(out, f.rows, f.quarters, f.diversity, lent),
     }
 }
 

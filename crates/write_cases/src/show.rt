@@ -1,11 +1,11 @@
 // The line that is printed for a call.
 ghost use Rattle.std.specs.Prelude.{◌≤◌};
 
-use reading::{Answer as Reading, read};
+use reading::read;
 use samples::outlines::{Buffer, first_bytes};
 use samples::words::{Output, say, say_number, say_pair, say_refusal};
 use std::num::wrapping_add_usize;
-use writing::{Answer, write};
+use writing::write;
 
 // What each byte of the text's buffer and each number of the pairs' holds before a call.
 const BYTE: u8 = 170;
@@ -112,15 +112,12 @@ fn say_again(out: &mut Output, outline: &[u8], text: &[u8], pairs: &[u32]) {
     let mut second = [BYTE; 1400];
     let mut beside = [NUMBER; 130];
     match write(outline, &mut second, &mut beside) {
-        Answer::Refused(_) => say(out, b", not again"),
-        Answer::Written {
-            bytes,
-            pairs: count,
-        } => {
-            let numbers = wrapping_add_usize(count, count);
+        Err(_) => say(out, b", not again"),
+        Ok(f) => {
+            let numbers = wrapping_add_usize(f.pairs, f.pairs);
             say_alike(
                 out,
-                front_bytes(&second, bytes),
+                front_bytes(&second, f.bytes),
                 front_numbers(&beside, numbers),
                 text,
                 pairs,
@@ -157,8 +154,8 @@ fn say_read(out: &mut Output, outline: &[u8], text: &[u8], pairs: &[u32]) {
     let mut back = [BYTE; 2064];
     say(out, b", read ");
     match read(text, pairs, &mut back) {
-        Reading::Refused(refusal) => say_refusal(out, refusal),
-        Reading::Read { records } => say_back(out, &back, records, outline, text, pairs),
+        Err(refusal) => say_refusal(out, refusal),
+        Ok(f) => say_back(out, &back, f.records, outline, text, pairs),
     }
 }
 
@@ -196,14 +193,11 @@ fn say_written(
 fn answer(out: &mut Output, outline: &[u8], text: &mut [u8], pairs: &mut [u32]) {
     say(out, b": ");
     match write(outline, text, pairs) {
-        Answer::Refused(refusal) => {
+        Err(refusal) => {
             say_refusal(out, refusal);
             say_wrong(out, text, 0, pairs, 0);
         }
-        Answer::Written {
-            bytes,
-            pairs: count,
-        } => say_written(out, outline, text, bytes, pairs, count),
+        Ok(f) => say_written(out, outline, text, f.bytes, pairs, f.pairs),
     }
 }
 

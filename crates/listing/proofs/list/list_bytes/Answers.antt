@@ -1,10 +1,11 @@
 -- `listing::list::list_bytes` meets its contract: choosing answers the call that the bytes make, and the lines come from its curve
 -- and from the sheet of its marks.
-use Rattle.std.proofs.Common.{◌≡◌, true, ℕ, ◌+◌, ◌*◌, ◌-◌, ◌≤◌, List, [], ◌∷◌, length, take, drop, arith, refl, ap, ◌∙◌}
+use Rattle.std.proofs.Common.{◌≡◌, true, ℕ, ◌+◌, ◌*◌, ◌-◌, ◌≤◌, List, [], ◌∷◌, length, take, drop, Ok, Err, arith, refl, ap, ◌∙◌}
 use Rattle.refusals.specs.Refusals.{refusal}
 use Rattle.refusals.specs.declared.refusal.Refusal.{Refusal}
 use Rattle.refusals.proofs.Refusals.{refusal_numbered}
 use Rattle.outline.specs.Outline.{short}
+use Rattle.choice.specs.declared.answer.Figures.{Figures}
 use Rattle.choice.specs.Answer.{Call, Answered, told, is_selected}
 use Rattle.choice.proofs.Answers.{selected_solvable}
 use Rattle.listing.specs.FromBuffers.{whole_text, Listed}
@@ -28,14 +29,13 @@ module _ (bytes : List ℕ) {count way : ℕ} (n : count ≡ short bytes 0) (w :
       → refusal_text (refusal e) ≡ answer_text (call_of bytes)
   refusal-printed e x = refused_text (call bytes count way) (refusal e) (refusal_numbered e) x.told_reply ∙ made
 
-  module _ {d k t s : ℕ} {marks curve work : List ℕ}
-      (x : Answered (call bytes count way) (told (Answer.Selected d k t s)) marks curve work) where
-    selection-printed : whole_text (count ∷ way ∷ d ∷ k ∷ t ∷ []) curve (count + 1) (outline bytes) way marks ≡ answer_text (call_of bytes)
+  module _ {f : Figures} {marks curve work : List ℕ} (x : Answered (call bytes count way) (told (Ok f)) marks curve work) where
+    selection-printed : whole_text (count ∷ way ∷ f.diversity ∷ f.cost ∷ f.taxa ∷ []) curve (count + 1) (outline bytes) way marks ≡ answer_text (call_of bytes)
     unfolding call_with
-    selection-printed = selected_text (call bytes count way) d k t s x.told_reply x.marks_written x.curve_written ∙ made
+    selection-printed = selected_text (call bytes count way) f x.told_reply x.marks_written x.curve_written ∙ made
 
     selection : is_selected (call bytes count way) ≡ true
-    selection = is_selected_lem (call bytes count way) d k t s x.told_reply
+    selection = is_selected_lem (call bytes count way) f x.told_reply
 
     -- its columns are within the curve
     columns-within : length curve ≡ 1024 → 2 * (count + 1) ≤ length curve
@@ -49,26 +49,26 @@ module _ (bytes : List ℕ) {count way : ℕ} (n : count ≡ short bytes 0) (w :
 
 pub put_refusal-requires : goal.put_refusal-requires
 unfolding call_with
-put_refusal-requires c = rw (refusal-printed _ c.short_at-count.ensures c.short_at-way.ensures _ c.in-Refused.ensures) c.requires.1
+put_refusal-requires c = rw (refusal-printed _ c.short_at-count.ensures c.short_at-way.ensures _ c.in-Err.ensures) c.requires.1
 
 pub put_selection-requires-clause-curve_long : goal.put_selection-requires-clause-curve_long
 unfolding call_with
 put_selection-requires-clause-curve_long c =
-    columns-within _ c.short_at-count.ensures c.short_at-way.ensures c.in-Selected.ensures c.choose-answer.auto.curve
+    columns-within _ c.short_at-count.ensures c.short_at-way.ensures c.in-Ok.ensures c.choose.auto.curve
 
 pub put_selection-requires-clause-listed : goal.put_selection-requires-clause-listed
 unfolding call_with
-put_selection-requires-clause-listed c = marks-listed _ c.short_at-count.ensures c.short_at-way.ensures c.in-Selected.ensures
+put_selection-requires-clause-listed c = marks-listed _ c.short_at-count.ensures c.short_at-way.ensures c.in-Ok.ensures
 
 pub put_selection-requires-clause-long_enough : goal.put_selection-requires-clause-long_enough
 unfolding call_with
 put_selection-requires-clause-long_enough c =
-    rw (selection-printed _ c.short_at-count.ensures c.short_at-way.ensures c.in-Selected.ensures) c.requires.1
+    rw (selection-printed _ c.short_at-count.ensures c.short_at-way.ensures c.in-Ok.ensures) c.requires.1
 
-pub returns-in-Refused : goal.returns-in-Refused
+pub returns-in-Err : goal.returns-in-Err
 unfolding call_with
-returns-in-Refused c = rw (refusal-printed _ c.short_at-count.ensures c.short_at-way.ensures _ c.in-Refused.ensures) at c.put_refusal.ensures
+returns-in-Err c = rw (refusal-printed _ c.short_at-count.ensures c.short_at-way.ensures _ c.in-Err.ensures) at c.put_refusal.ensures
 
-pub returns-in-Selected : goal.returns-in-Selected
+pub returns-in-Ok : goal.returns-in-Ok
 unfolding call_with
-returns-in-Selected c = rw (selection-printed _ c.short_at-count.ensures c.short_at-way.ensures c.in-Selected.ensures) at c.put_selection.ensures
+returns-in-Ok c = rw (selection-printed _ c.short_at-count.ensures c.short_at-way.ensures c.in-Ok.ensures) at c.put_selection.ensures

@@ -4,8 +4,8 @@ use Rattle.listing.proofs.refusal.put_refusal.Goals as goal
 
 pub put_labelled-requires : goal.put_labelled-requires
 unfolding refusal_text
-put_labelled-requires c = rw (c.number_of-number.ensures, c.place_of-place.ensures) c.requires
+put_labelled-requires c = rw (c.number-number.ensures, c.place-place.ensures) c.requires
 
 pub returns : goal.returns
 unfolding refusal_text
-returns c = rw (← c.number_of-number.ensures, ← c.place_of-place.ensures) c.put_labelled.ensures
+returns c = rw (← c.number-number.ensures, ← c.place-place.ensures) c.put_labelled.ensures

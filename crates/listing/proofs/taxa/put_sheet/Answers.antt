@@ -1,7 +1,8 @@
 -- `listing::taxa::put_sheet` meets its contract: the set is listed, and the lines come from its sheet.
 use Rattle.std.proofs.Common.{◌≡◌, ℕ, List, [], ◌∷◌, ◌++◌, replicate, arith, subst}
 use Rattle.refusals.specs.Reply.{Reply}
-use Rattle.sheet.specs.Answer.{Call, call, Figures, Answered, judged, marked_set}
+use Rattle.sheet.specs.declared.answer.Figures.{Figures}
+use Rattle.sheet.specs.Answer.{Call, call, Answered, judged, marked_set}
 use Rattle.text.specs.Text.{labelled}
 use Rattle.text.specs.Written.{LongEnough}
 use Rattle.text.proofs.Writing.{Left, left_starts, left_fits, left_goes, left_last}
@@ -22,29 +23,29 @@ begun c {at = at} {buffer = buffer} x passes h =
 abbrev called : List ℕ → ℕ → List ℕ → Call
 called o way marks = call o way marks (replicate 192 0)
 
+-- what a choice marked is not refused
+pub unwrap-sums-requires : goal.unwrap-sums-requires
+unwrap-sums-requires c = not_refused (called c.args.o.now c.args.way c.args.marks.now) c.sheet.result c.sheet.ensures c.requires.listed
+
 pub put_taxa-total-requires : goal.put_taxa-total-requires
 put_taxa-total-requires c =
     let a = c.args in
     let sheet = called a.o.now a.way a.marks.now in
-    let inside = rows_inside sheet c.in-Listed.ensures c.requires.listed in (
-      omega (arith, inside, c.sheet.auto.sheet),
-      left_fits (taxa_text c.sheet.new.sheet c.in-Listed.rows) _
-          (begun sheet c.in-Listed.ensures c.requires.listed c.requires.long_enough),
+    let told = rw c.unwrap-sums.ensures at c.sheet.ensures in (
+      omega (arith, rows_inside sheet told c.requires.listed, c.sheet.auto.sheet),
+      left_fits (taxa_text c.sheet.new.sheet c.unwrap-sums.result.rows) _ (begun sheet told c.requires.listed c.requires.long_enough),
     )
 
 pub put_labelled-requires : goal.put_labelled-requires
 put_labelled-requires c =
     let a = c.args in
-    let start = begun (called a.o.now a.way a.marks.now) c.in-Listed.ensures c.requires.listed c.requires.long_enough in
-    (left_goes (taxa_text c.sheet.new.sheet c.in-Listed.rows) _ start c.put_taxa-total.ensures).fits
+    let told = rw c.unwrap-sums.ensures at c.sheet.ensures in
+    let start = begun (called a.o.now a.way a.marks.now) told c.requires.listed c.requires.long_enough in
+    (left_goes (taxa_text c.sheet.new.sheet c.unwrap-sums.result.rows) _ start c.put_taxa-total.ensures).fits
 
-pub returns-in-Listed : goal.returns-in-Listed
-returns-in-Listed c =
+pub returns : goal.returns
+returns c =
     let a = c.args in
-    let start = begun (called a.o.now a.way a.marks.now) c.in-Listed.ensures c.requires.listed c.requires.long_enough in
-    left_last (left_goes (taxa_text c.sheet.new.sheet c.in-Listed.rows) _ start c.put_taxa-total.ensures) c.put_labelled.ensures
-
-pub returns-in-Refused : goal.returns-in-Refused
-returns-in-Refused c =
-    let a = c.args in
-    absurd (not_refused (called a.o.now a.way a.marks.now) c.in-Refused.field-0 c.in-Refused.ensures c.requires.listed)
+    let told = rw c.unwrap-sums.ensures at c.sheet.ensures in
+    let start = begun (called a.o.now a.way a.marks.now) told c.requires.listed c.requires.long_enough in
+    left_last (left_goes (taxa_text c.sheet.new.sheet c.unwrap-sums.result.rows) _ start c.put_taxa-total.ensures) c.put_labelled.ensures
