@@ -46,6 +46,11 @@ put_both {p = p} {q} {s = s} {t} h d e = record {
   same_length = e.same_length ∙ d.same_length;
 }
 
+-- what a pen put at the beginning of a buffer stands there when the pen is let go
+pub put_over : {A : Type 0} {text end : List A} {p q : Pen A} → Put text p q → p.at ≡ 0 → end ≡ q.buffer.now → end ≡ over text p.buffer.now
+unfolding over over_at
+put_over d z e = let b = d.written.buffer_is in e ∙ rw z at b
+
 -- of a whole text, which a pen began to put as `before`, the rest is left: the pen has room for it, and whatever puts it puts the whole
 pub record Left {A : Type 0} (whole : List A) (before : Pen A) (rest : List A) (now : Pen A) : Type 0 where
   pub fits : LongEnough rest now
