@@ -12,7 +12,6 @@ use super::record::{DRAFT, draft_record};
 use super::scan::{ends_at, is_tree};
 use outline::checker::check_records;
 use refusals::verdict::{Refusal, Verdict};
-use text::put_text;
 
 const MOST_BYTES: usize = 16384;
 
@@ -62,7 +61,7 @@ fn place(o: &[u8], pairs: &[u32], outline: &mut [u8]) -> Answer
     match check_records(o) {
         Verdict::Refused(refusal) => Answer::Refused(refusal),
         Verdict::Accepted => {
-            put_text(outline, 0, o);
+            outline[..o.len()].copy_from_slice(o);
             Answer::Read {
                 records: o.len() / 16,
             }

@@ -1,6 +1,6 @@
 -- `reading::reader::place` meets its contract: each way out is a row, or none holds.
 use Rattle.std.proofs.Common.{sym, ◌∙◌}
-use Rattle.lists.specs.Lists.{over, over_at}
+use Rattle.lists.specs.Lists.{over}
 use Rattle.reading.proofs.Answers.{placed_bad, placed_short, placed_refused, placed_read}
 use Rattle.reading.proofs.reader.place.Goals as goal
 
@@ -16,7 +16,7 @@ returns-in-Refused c =
     c.check_records.ensures c.in-Refused.is
 
 pub returns-in-Accepted : goal.returns-in-Accepted
-unfolding over over_at
+unfolding over
 returns-in-Accepted c =
     placed_read _ _ _ (sym c.bad_pairs.ensures ∙ c.if-bad_pairs.false) c.if-outline-o.false c.check_records.ensures
-    c.in-Accepted.is c.put_text.ensures.buffer_is
+    c.in-Accepted.is (rw c.copy_from_slice.ensures.after)
