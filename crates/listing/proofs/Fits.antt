@@ -1,14 +1,13 @@
 -- What is printed fits a buffer of 16,384 bytes.
 use Rattle.std.specs.Prelude.{if◌then◌else◌}
 use Prim.Native.Nat.{ℕ, ◌+◌, ◌^◌, ◌≤◌, ◌<◌}
-use mathlib.Core.Path.{◌≡◌, refl, ap, ◌∙◌}
+use mathlib.Core.Path.{◌≡◌, refl}
 use mathlib.Core.Logic.{◌⊎◌, ⊎_elim}
 use mathlib.Core.Bool.{Bool, true, false}
 use mathlib.Core.List.{List, [], ◌∷◌}
 use native.Mathlib.Omega.{arith}
 use lib.Dec.{ltb, leb}
 use lib.ListN.{length, take, length-append}
-use lib.Seq.{take_all}
 use borrow.Author.Tests.{lt-ltb, le-ltb, leb-true, leb-false}
 use Rattle.lists.specs.Lists.{one, from}
 use Rattle.lists.proofs.Bools.{one_le, if_most}
@@ -178,9 +177,6 @@ printed_short input h = rw (lt-ltb (length input) 4 h)
 pub printed_judged : (input : List ℕ) → 4 ≤ length input → printed input ≡ answer_text (call_of (take 2052 input))
 unfolding printed
 printed_judged input h = rw (le-ltb (length input) 4 h)
-
-pub printed_whole : (input : List ℕ) → 4 ≤ length input → length input ≤ 2052 → printed input ≡ answer_text (call_of input)
-printed_whole input h u = printed_judged input h ∙ ap (λ l. answer_text (call_of l)) (take_all 2052 input u)
 
 pub printed_fits : (input : List ℕ) → length (printed input) ≤ 16384
 unfolding printed

@@ -1,6 +1,6 @@
 // The listing of an input.
 ghost use Rattle.std.specs.Prelude.{◌*◌, ◌≤◌, ◌<◌, length};
-ghost use Rattle.text.specs.Written.{LongEnough, Written};
+ghost use Rattle.text.specs.Written.{LongEnough, Put, Written};
 ghost use Rattle.listing.specs.FromBuffers.{whole_text, Listed};
 ghost use Rattle.listing.specs.Printed.{call_of, answer_text, printed};
 
@@ -10,35 +10,33 @@ use super::taxa::put_sheet;
 use choice::choose;
 use outline::fields::short_at;
 use refusals::Refusal;
-use text::put_line;
+use text::Pen;
 
 // The first line, the columns and the sheet.
 fn put_selection(
-    buffer: &mut [u8],
+    pen: &mut Pen<u8>,
     first: &[u64],
     curve: &[u32],
     width: usize,
     o: &[u8],
     way: u32,
     marks: &[u8],
-) -> usize
+)
     requires first_some { 0 < length first.now }
     requires curve_long { 2 * width ≤ length curve.now }
     requires listed { Listed o.now way marks.now }
-    requires long_enough { LongEnough 0 (whole_text first.now curve.now width o.now way marks.now) buffer.old }
-    ensures { Written 0
-        (whole_text first.now curve.now width o.now way marks.now)
-        buffer.old buffer.new result }
+    requires long_enough { LongEnough (whole_text first.now curve.now width o.now way marks.now) pen.old }
+    ensures { Put (whole_text first.now curve.now width o.now way marks.now) pen.old pen.new }
 {
-    let columns = put_line(buffer, 0, first);
-    let taxa = put_columns(buffer, columns, curve, width);
-    put_sheet(buffer, taxa, o, way, marks)
+    pen.put_line(first);
+    put_columns(pen, curve, width);
+    put_sheet(pen, o, way, marks);
 }
 
 // The listing of the bytes that are judged.
-fn list_bytes(buffer: &mut [u8], bytes: &[u8]) -> usize
-    requires { (4 ≤ length bytes.now) × LongEnough 0 (answer_text (call_of bytes.now)) buffer.old }
-    ensures { Written 0 (answer_text (call_of bytes.now)) buffer.old buffer.new result }
+fn list_bytes(pen: &mut Pen<u8>, bytes: &[u8])
+    requires { (4 ≤ length bytes.now) × LongEnough (answer_text (call_of bytes.now)) pen.old }
+    ensures { Put (answer_text (call_of bytes.now)) pen.old pen.new }
 {
     let mut marks = [0u8; 127];
     let mut curve = [0u32; 1024];
@@ -47,7 +45,7 @@ fn list_bytes(buffer: &mut [u8], bytes: &[u8]) -> usize
     let way = short_at(bytes, 2) as u32;
     let outline = &bytes[4..];
     match choose(outline, count, way, &mut marks, &mut curve, &mut work) {
-        Err(refusal) => put_refusal(buffer, refusal),
+        Err(refusal) => put_refusal(pen, refusal),
         Ok(f) => {
             let first = [
                 count as u64,
@@ -57,14 +55,14 @@ fn list_bytes(buffer: &mut [u8], bytes: &[u8]) -> usize
                 f.taxa as u64,
             ];
             put_selection(
-                buffer,
+                pen,
                 &first,
                 &curve,
                 count as usize + 1,
                 outline,
                 way,
                 &marks,
-            )
+            );
         }
     }
 }
@@ -73,11 +71,11 @@ fn list_bytes(buffer: &mut [u8], bytes: &[u8]) -> usize
 pub fn list(input: &[u8], buffer: &mut [u8; 16384]) -> usize
     ensures { Written 0 (printed input.now) buffer.old buffer.new result }
 {
+    let mut pen = Pen { buffer, at: 0 };
     if input.len() < 4 {
-        return put_refusal(buffer, Refusal::PartialRecord);
+        put_refusal(&mut pen, Refusal::PartialRecord);
+        return pen.at;
     }
-    if input.len() < 2052 {
-        return list_bytes(buffer, input);
-    }
-    list_bytes(buffer, &input[..2052])
+    list_bytes(&mut pen, &input[..2052.min(input.len())]);
+    pen.at
 }

@@ -16,26 +16,26 @@ two_at xs i h =
     drop-cons xs i 0 (omega arith) ∙ rw (e, drop-cons xs (i + 1) 0 h, f)
 
 -- what follows a piece that stands at a place
-pub after_list : (xs : List ℕ) (i n : ℕ) (s rest : List ℕ) → length s ≡ n → drop i xs ≡ s ++ rest → drop (i + n) xs ≡ rest
+pub after_list : {A : Type 0} (xs : List A) (i n : ℕ) (s rest : List A) → length s ≡ n → drop i xs ≡ s ++ rest → drop (i + n) xs ≡ rest
 after_list xs i n s rest e h = sym (drop-drop n i xs) ∙ rw h (drop_at s rest n e)
 
 -- one number
-pub over_one : (at b : ℕ) (buffer : List ℕ) → at < length buffer → set buffer at b ≡ over_at at (b ∷ []) buffer
+pub over_one : {A : Type 0} (at : ℕ) (b : A) (buffer : List A) → at < length buffer → set buffer at b ≡ over_at at (b ∷ []) buffer
 unfolding over over_at
 over_one at b buffer h = rw (drop-drop 1 at buffer, add-one) (set_split buffer at b h)
 
 -- nothing
-pub over_nothing : (at : ℕ) (buffer : List ℕ) → over_at at [] buffer ≡ buffer
+pub over_nothing : {A : Type 0} (at : ℕ) (buffer : List A) → over_at at [] buffer ≡ buffer
 unfolding over over_at
 over_nothing at buffer = take-append-drop at buffer
 
 -- what is written inside a buffer leaves its length
-pub over_length : (at : ℕ) (s buffer : List ℕ) → at + length s ≤ length buffer → length (over_at at s buffer) ≡ length buffer
+pub over_length : {A : Type 0} (at : ℕ) (s buffer : List A) → at + length s ≤ length buffer → length (over_at at s buffer) ≡ length buffer
 unfolding over over_at
 over_length at s buffer h = simp (length-append, length-drop) (omega (arith, length-take-le at buffer (omega arith)))
 
 -- a piece after another
-pub over_both : (at to : ℕ) (s t buffer : List ℕ) → at ≤ length buffer → to ≡ at + length s
+pub over_both : {A : Type 0} (at to : ℕ) (s t buffer : List A) → at ≤ length buffer → to ≡ at + length s
     → over_at to t (over_at at s buffer) ≡ over_at at (s ++ t) buffer
 unfolding over over_at
 over_both at to s t buffer h z =
@@ -47,7 +47,7 @@ over_both at to s t buffer h z =
     rw (z, whole, take_at front back _ long, drop_at front back _ long, drop-drop (length t) (length s) rest, ← length-append s t) (simp append_assoc)
 
 -- a piece before another
-pub over_before : (at to : ℕ) (s t buffer : List ℕ) → to ≤ length buffer → to ≡ at + length s
+pub over_before : {A : Type 0} (at to : ℕ) (s t buffer : List A) → to ≤ length buffer → to ≡ at + length s
     → over_at at s (over_at to t buffer) ≡ over_at at (s ++ t) buffer
 unfolding over over_at
 over_before at to s t buffer h z =

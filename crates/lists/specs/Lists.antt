@@ -35,11 +35,11 @@ abbrev pub nonzero : ℕ → Option ℕ
 nonzero n = if eqb n 0 then None else Some n
 
 -- numbers written at the beginning of a buffer; the rest of the buffer is unchanged
-unfoldable pub over : List ℕ → List ℕ → List ℕ
+unfoldable pub over : {A : Type 0} → List A → List A → List A
 over text buffer = text ++ drop (length text) buffer
 
 -- numbers written in a buffer at a place: what stands before the place stays, and they are written over the rest
-unfoldable pub over_at : ℕ → List ℕ → List ℕ → List ℕ
+unfoldable pub over_at : {A : Type 0} → ℕ → List A → List A → List A
 over_at at text buffer = take at buffer ++ over text (drop at buffer)
 
 -- a list of bytes

@@ -12,7 +12,6 @@ use super::record::{DRAFT, draft_record};
 use super::scan::{ends_at, is_tree};
 use outline::checker::check_records;
 use refusals::Refusal;
-use text::put_text;
 
 const MOST_BYTES: usize = 16384;
 
@@ -60,7 +59,7 @@ fn place(o: &[u8], pairs: &[u32], outline: &mut [u8]) -> Result<Figures, Refusal
         return Err(Refusal::BufferTooShort);
     }
     check_records(o)?;
-    put_text(outline, 0, o);
+    outline[..o.len()].copy_from_slice(o);
     Ok(Figures {
         records: o.len() / 16,
     })

@@ -6,6 +6,7 @@ ghost use Rattle.outline.specs.Rules.{most_records};
 use super::pairs::price_in;
 use outline::limits::MOST_RECORDS;
 use records::put_record;
+use text::Pen;
 
 pub const DRAFT: usize = 16 * MOST_RECORDS;
 
@@ -34,5 +35,9 @@ pub fn draft_record(
     ensures { draft.new ≡ drafted pairs.now k next first branch plate draft.old }
 {
     let price = price_for(pairs, first, plate);
-    put_record(draft, 16 * k, next, first, branch, price, plate);
+    let mut pen = Pen {
+        buffer: draft,
+        at: 16 * k,
+    };
+    put_record(&mut pen, next, first, branch, price, plate);
 }

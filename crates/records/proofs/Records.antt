@@ -3,12 +3,28 @@ use Prim.Native.Nat.{ℕ, zero, suc, ◌+◌, ◌*◌, ◌-◌, ◌/◌, ◌%◌
 use mathlib.Core.Path.{◌≡◌, refl, sym, ap, ap₂, ◌∙◌}
 use mathlib.Core.List.{List, ◌∷◌, ◌++◌, append_assoc}
 use native.Mathlib.Omega.{arith}
+use Rattle.std.specs.Int.{w16, w32, to_le_bytes}
 use lib.ListN.{length, get_or, drop, length-append}
 use lib.Seq.{get_or-drop, drop-drop, drop_at}
 use Rattle.lists.specs.Lists.{from, Bytes}
 use Rattle.lists.proofs.Pieces.{two_at}
 use Rattle.outline.specs.Outline.{short, long, next, first, branch, price, plate_field, bytes, record_bytes, IsRecord}
 use Rattle.text.specs.Text.{texts}
+
+-- the bytes that std gives of a number, of its two lower bytes and of all four
+pub two_bytes : (v : ℕ) → to_le_bytes w16 (v % 65536) ≡ bytes 2 v
+unfolding bytes
+two_bytes v =
+    let low : v % 65536 % 256 ≡ v % 256 = omega arith in
+    let high : v % 65536 / 256 % 256 ≡ v / 256 % 256 = omega arith in
+    rw (low, high)
+
+pub four_bytes : (v : ℕ) → to_le_bytes w32 v ≡ bytes 4 v
+unfolding bytes
+four_bytes v =
+    let third : v / 65536 ≡ v / 256 / 256 = omega arith in
+    let fourth : v / 16777216 ≡ v / 256 / 256 / 256 = omega arith in
+    rw (third, fourth)
 
 -- four bytes are twice two
 pub bytes_halves : (v : ℕ) → bytes 2 (v % 65536) ++ bytes 2 (v / 65536) ≡ bytes 4 v

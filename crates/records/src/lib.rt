@@ -1,45 +1,20 @@
-// Writing a record of an outline into a lent buffer. Each function takes the place where its bytes begin and answers the place after
-// them; the rest of the buffer keeps what it holds.
+// Putting a record of an outline into a lent buffer.
 #![tactic(auto)]
 
-ghost use Rattle.outline.specs.Outline.{bytes, record_bytes};
-ghost use Rattle.text.specs.Written.{LongEnough, Written};
+ghost use Rattle.outline.specs.Outline.{record_bytes};
+ghost use Rattle.text.specs.Written.{LongEnough, Put};
 
-// The two lower bytes of a number, the least significant first.
-fn put_short(buffer: &mut [u8], at: usize, v: usize) -> usize
-    requires { LongEnough at (bytes 2 v) buffer.old }
-    ensures { Written at (bytes 2 v) buffer.old buffer.new result }
-{
-    buffer[at] = (v % 256) as u8;
-    buffer[at + 1] = (v / 256 % 256) as u8;
-    at + 2
-}
+use text::Pen;
 
-// The four bytes of a number.
-fn put_long(buffer: &mut [u8], at: usize, v: u32) -> usize
-    requires { LongEnough at (bytes 4 v) buffer.old }
-    ensures { Written at (bytes 4 v) buffer.old buffer.new result }
+// The sixteen bytes of a record, field by field; of a link the two lower bytes.
+#[tactic(auto, using(crate::proofs::Records::record_length))]
+pub fn put_record(pen: &mut Pen<u8>, next: usize, first: usize, branch: u32, price: u32, plate: u32)
+    requires { LongEnough (record_bytes next first branch price plate) pen.old }
+    ensures { Put (record_bytes next first branch price plate) pen.old pen.new }
 {
-    let to = put_short(buffer, at, (v % 65536) as usize);
-    put_short(buffer, to, (v / 65536) as usize)
-}
-
-// The sixteen bytes of a record, field by field.
-pub fn put_record(
-    buffer: &mut [u8],
-    at: usize,
-    next: usize,
-    first: usize,
-    branch: u32,
-    price: u32,
-    plate: u32,
-) -> usize
-    requires { LongEnough at (record_bytes next first branch price plate) buffer.old }
-    ensures { Written at (record_bytes next first branch price plate) buffer.old buffer.new result }
-{
-    let to = put_short(buffer, at, next);
-    let to = put_short(buffer, to, first);
-    let to = put_long(buffer, to, branch);
-    let to = put_long(buffer, to, price);
-    put_long(buffer, to, plate)
+    pen.put(&((next % 65536) as u16).to_le_bytes());
+    pen.put(&((first % 65536) as u16).to_le_bytes());
+    pen.put(&branch.to_le_bytes());
+    pen.put(&price.to_le_bytes());
+    pen.put(&plate.to_le_bytes());
 }

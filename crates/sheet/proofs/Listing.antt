@@ -1,18 +1,16 @@
 -- The rows of a set, written one after the other.
 use Rattle.std.specs.Prelude.{if◌then◌else◌}
-use Prim.Native.Nat.{ℕ, ◌*◌, ◌-◌, ◌<◌}
-use mathlib.Core.Path.{◌≡◌, refl, ap, ◌∙◌}
+use Prim.Native.Nat.{ℕ, ◌*◌, ◌-◌, ◌≤◌}
+use mathlib.Core.Path.{◌≡◌, refl}
 use mathlib.Core.Bool.{Bool, true, false}
 use mathlib.Core.List.{List, [], ◌∷◌}
 use native.Mathlib.Omega.{arith}
 use lib.ListN.{length, get_or}
-use Rattle.lists.specs.Lists.{one, over, over_at}
+use Rattle.lists.specs.Lists.{one, from}
 use Rattle.outline.specs.Outline.{size, records, plate, IsRecord}
 use Rattle.diversity.specs.Diversity.{chosen, cost, chosen_taxa, diversity as diversity_by}
 use Rattle.text.specs.Text.{texts}
-use Rattle.text.specs.Written.{LongEnough}
 use Rattle.text.proofs.Texts.{texts_ext}
-use Rattle.text.proofs.Walks.{Walking, walking_starts, walking_ends}
 use Rattle.sheet.specs.Sheet.{row_of, rows_of}
 use Rattle.sheet.specs.Inner.{Listable, Adds, row_in}
 use Rattle.sheet.proofs.Sums.{threes}
@@ -26,20 +24,13 @@ module _ (o s quarters diversity : List ℕ) where
       go false = refl
 
   -- the rows of all taxa fit where there is room for three numbers each
-  rows_fit : {sheet : List ℕ} → Listable o s sheet → LongEnough 0 (texts (row_in o s quarters diversity) (records o)) sheet
-  unfolding chosen_taxa
+  pub rows_fit : {sheet : List ℕ} → Listable o s sheet → length (texts (row_in o s quarters diversity) (from 1 (size o))) ≤ length sheet
+  unfolding chosen_taxa records
   rows_fit l = omega (arith, l.room, threes s (row_in o s quarters diversity) row_length (records o))
 
-  -- the loop through the records writes them
-  pub listing_starts : {sheet : List ℕ} → Listable o s sheet → Walking (row_in o s quarters diversity) 1 (size o) 0 sheet 1 0 sheet
-  unfolding records
-  listing_starts l = walking_starts (row_in o s quarters diversity) 1 (size o) 0 _ (rows_fit l)
-
   -- by tables of what each record adds, they are the rows of the sheet
-  pub listing_ends : (way : ℕ) {before after : List ℕ} {r to : ℕ} → Adds o (cost o) s quarters → Adds o (diversity_by o way) s diversity
-      → Walking (row_in o s quarters diversity) 1 (size o) 0 before r to after → size o < r → after ≡ over (rows_of o way s) before
-  unfolding rows_of row_of records over over_at
-  listing_ends way {before} q d w h =
-      (walking_ends w (omega arith)).buffer_is
-      ∙ ap (λ rows. over rows before)
-      (texts_ext _ _ 1 (size o) (λ r l u. let i : IsRecord o r = record { low = l; high = omega arith } in rw (q.at_place r i, d.at_place r i)))
+  pub rows_in : (way : ℕ) → Adds o (cost o) s quarters → Adds o (diversity_by o way) s diversity
+      → texts (row_in o s quarters diversity) (from 1 (size o)) ≡ rows_of o way s
+  unfolding rows_of row_of records
+  rows_in way q d =
+      texts_ext _ _ 1 (size o) (λ r l u. let i : IsRecord o r = record { low = l; high = omega arith } in rw (q.at_place r i, d.at_place r i))

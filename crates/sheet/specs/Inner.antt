@@ -9,6 +9,7 @@ use Rattle.diversity.specs.Diversity.{chosen, within, elsewhere, chosen_taxa}
 use Rattle.diversity.specs.Behind.{IsSet}
 use Rattle.laws.specs.Forest.{tree}
 use Rattle.text.specs.Written.{LongEnough}
+use Rattle.text.specs.declared.Pen.{Pen}
 use Rattle.sheet.specs.Sheet.{up_to, added}
 use Rattle.outline.specs.Rules.{most_records}
 use Rattle.laws.specs.Measures.{chosen_in}
@@ -91,8 +92,8 @@ pub record Adds (o : List ℕ) (measure : List ℕ → ℕ) (s table : List ℕ)
 abbrev pub row_in : List ℕ → List ℕ → List ℕ → List ℕ → ℕ → List ℕ
 row_in o s quarters diversity r = if chosen s r then plate o r ∷ get_or quarters (r - 1) 0 ∷ get_or diversity (r - 1) 0 ∷ [] else []
 
--- it fits at a place
-pub record RowFits (o s : List ℕ) (r : ℕ) (quarters diversity sheet : List ℕ) (at : ℕ) : Type 0 where
+-- a pen has room for it
+pub record RowFits (o s : List ℕ) (r : ℕ) (quarters diversity : List ℕ) (pen : Pen ℕ) : Type 0 where
   pub base : Measurable o s
   pub is_record : IsRecord o r
-  pub room : LongEnough at (row_in o s quarters diversity r) sheet
+  pub room : LongEnough (row_in o s quarters diversity r) pen

@@ -1,7 +1,7 @@
 // Listing a marked set.
 ghost use Rattle.std.specs.Prelude.{◌≡◌};
 ghost use Rattle.lists.specs.Lists.{over};
-ghost use Rattle.text.specs.Written.{Written};
+ghost use Rattle.text.specs.Written.{Put};
 ghost use Rattle.sheet.specs.Answer.{call, told, Answered};
 ghost use Rattle.sheet.specs.Inner.{Listable, row_in, RowFits};
 ghost use Rattle.sheet.specs.Sheet.{rows_of};
@@ -14,29 +14,23 @@ use measures::measure;
 use outline::fields::plate_of;
 use outline::limits::NUMBERS;
 use refusals::Refusal;
+use text::Pen;
 
-// Writes the row of record r at a place, if it is chosen, and answers the next place.
+// Puts the row of record r, if it is chosen.
 fn put_row(
     o: &[u8],
     set: &[u8],
     r: usize,
     quarters: &[u32; NUMBERS],
     diversity: &[u32; NUMBERS],
-    sheet: &mut [u32],
-    at: usize,
-) -> usize
-    requires { RowFits o.now set.now r quarters.now diversity.now sheet.old at }
-    ensures { Written at
-        (row_in o.now set.now quarters.now diversity.now r)
-        sheet.old sheet.new result }
+    pen: &mut Pen<u32>,
+)
+    requires { RowFits o.now set.now r quarters.now diversity.now pen.old }
+    ensures { Put (row_in o.now set.now quarters.now diversity.now r) pen.old pen.new }
 {
     if set[r - 1] == 1 {
-        sheet[at] = plate_of(o, r);
-        sheet[at + 1] = quarters[r - 1];
-        sheet[at + 2] = diversity[r - 1];
-        return at + 3;
+        pen.put(&[plate_of(o, r), quarters[r - 1], diversity[r - 1]]);
     }
-    at
 }
 
 // Writes a row for each taxon of a set, in record order.
@@ -44,15 +38,15 @@ fn write_rows(o: &[u8], way: u32, set: &[u8], sheet: &mut [u32])
     requires { Listable o.now set.now sheet.old }
     ensures { sheet.new ≡ over (rows_of o.now way set.now) sheet.old }
 {
-    let n = o.len() / 16;
     let firsts = firsts_of(o, set);
     let quarters = quarters_of(o, set, &firsts);
     let diversity = diversity_of(o, way, set, &firsts);
-    let mut at = 0;
-    let mut r = 1;
-    while r <= n {
-        at = put_row(o, set, r, &quarters, &diversity, sheet, at);
-        r += 1;
+    let mut pen = Pen {
+        buffer: sheet,
+        at: 0,
+    };
+    for r in 1..=o.len() / 16 {
+        put_row(o, set, r, &quarters, &diversity, &mut pen);
     }
 }
 

@@ -1,129 +1,74 @@
--- Writing a text piece by piece, by what is left of it.
-use Prim.Native.Nat.{ℕ, ◌+◌, ◌≤◌, ◌<◌}
-use mathlib.Core.Path.{◌≡◌, refl, sym, ap, subst, ◌∙◌}
-use mathlib.Core.List.{List, [], ◌∷◌, ◌++◌}
-use native.Mathlib.Numerals.{add-one}
+-- What a pen puts, piece by piece, by what is left of it.
+use Prim.Native.Nat.{ℕ, ◌+◌, ◌-◌, ◌≤◌}
+use mathlib.Core.Path.{◌≡◌, refl, sym, ap, ◌∙◌}
+use mathlib.Core.List.{List, [], ◌++◌}
 use native.Mathlib.Omega.{arith}
-use lib.ListN.{length, get_or, drop, set, length-append, length-set, drop_of_length-le}
-use lib.Seq.{drop-cons}
+use lib.ListN.{length, length-append}
+use borrow.Rule.Slice.PartMut.{put_mid}
 use Rattle.lists.specs.Lists.{over, over_at}
-use Rattle.lists.proofs.Pieces.{over_one, over_nothing, over_length, over_both}
-use Rattle.text.specs.Written.{LongEnough, Written}
+use Rattle.lists.proofs.Pieces.{over_nothing, over_length, over_both}
+use Rattle.text.specs.Written.{LongEnough, Written, Put}
+use Rattle.text.specs.declared.Pen.{Pen}
 
--- one byte
-pub written_byte : (at b : ℕ) (buffer : List ℕ) → at < length buffer → Written at (b ∷ []) buffer (set buffer at b) (at + 1)
-written_byte at b buffer h = record { buffer_is = over_one at b buffer h; next_is = refl }
+-- a text that is copied into its part of the buffer
+pub copied : {A : Type 0} (at : ℕ) (text buffer : List A) → Written at text buffer (put_mid at (at + length text - at) buffer text) (at + length text)
+unfolding over over_at
+copied at text buffer = let long : at + length text - at ≡ length text = omega arith in record { buffer_is = rw long; next_is = refl }
 
--- one piece after another
-written_then : {at m n : ℕ} {s t before mid after : List ℕ} → at ≤ length before → Written at s before mid m → Written m t mid after n
-    → Written at (s ++ t) before after n
-written_then {at} {m} {n} {s} {t} {before} {mid} h d e = record {
-  buffer_is = e.buffer_is ∙ ap (over_at m t) d.buffer_is ∙ over_both at m s t before h d.next_is;
-  next_is = omega (arith, d.next_is, e.next_is, length-append s t);
-}
-
--- two numbers, and three
-pub written_two : (at a b : ℕ) (buffer : List ℕ) → at + 2 ≤ length buffer
-    → Written at (a ∷ b ∷ []) buffer (set (set buffer at a) (at + 1) b) (at + 2)
-written_two at a b buffer h =
-    let e : at + 2 ≡ at + 1 + 1 = omega arith in
-    rw e (written_then (omega arith) (written_byte at a buffer (omega arith)) (written_byte (at + 1) b (set buffer at a) (rw length-set (omega arith))))
-
-pub written_three : (at a b c : ℕ) (buffer : List ℕ) → at + 3 ≤ length buffer
-    → Written at (a ∷ b ∷ c ∷ []) buffer (set (set (set buffer at a) (at + 1) b) (at + 2) c) (at + 3)
-written_three at a b c buffer h =
-    let e : at + 3 ≡ at + 2 + 1 = omega arith in
-    rw e
-    (written_then (omega arith) (written_two at a b buffer (omega arith))
-    (written_byte (at + 2) c (set (set buffer at a) (at + 1) b) (rw (length-set, length-set) (omega arith))))
-
--- nothing
-pub written_nothing : (at : ℕ) (buffer : List ℕ) → Written at [] buffer buffer at
-written_nothing at buffer = record { buffer_is = sym (over_nothing at buffer); next_is = omega arith }
+-- what is written leaves the buffer's length
+pub written_length : {A : Type 0} {at next : ℕ} {text before after : List A} → at + length text ≤ length before
+    → Written at text before after next → length after ≡ length before
+written_length {at = at} {text = text} {before} h d = ap length d.buffer_is ∙ over_length at text before h
 
 -- a text that begins a buffer is within it
 pub written_within : {text before after : List ℕ} {next : ℕ} → Written 0 text before after next → next ≤ length after
 unfolding over over_at
 written_within d = omega (arith, d.next_is, simp length-append at (ap length d.buffer_is))
 
--- the rest, written at place `to` of the buffer after, completes the whole, which begins at place `at` of the buffer before
-pub record Left (at : ℕ) (whole before : List ℕ) (to : ℕ) (rest after : List ℕ) : Type 0 where
-  pub same_buffer : over_at to rest after ≡ over_at at whole before
-  pub same_end : to + length rest ≡ at + length whole
-  pub same_length : length after ≡ length before
-  pub fits : LongEnough to rest after
+-- nothing is put
+pub put_nothing : {A : Type 0} (p : Pen A) → Put [] p p
+put_nothing p = record {
+  written = record { buffer_is = sym (over_nothing p.at p.buffer.now); next_is = omega arith };
+  same_buffer = refl;
+  same_length = refl;
+}
 
-pub left_starts : {at : ℕ} {whole before : List ℕ} → LongEnough at whole before → Left at whole before at whole before
-left_starts h = record { same_buffer = refl; same_end = refl; same_length = refl; fits = h }
+-- one piece after another
+pub put_both : {A : Type 0} {p q r : Pen A} {s t : List A} → LongEnough s p → Put s p q → Put t q r → Put (s ++ t) p r
+put_both {p = p} {q} {s = s} {t} h d e = record {
+  written = record {
+    buffer_is =
+        e.written.buffer_is ∙ ap (over_at q.at t) d.written.buffer_is
+        ∙ over_both p.at q.at s t p.buffer.now (omega arith) d.written.next_is;
+    next_is = omega (arith, length-append s t);
+  };
+  same_buffer = e.same_buffer ∙ d.same_buffer;
+  same_length = e.same_length ∙ d.same_length;
+}
 
-pub left_ends : {at to : ℕ} {whole before after : List ℕ} → Left at whole before to [] after → Written at whole before after to
-left_ends {at} {to} {whole} {before} {after} l =
-    record { buffer_is = sym (over_nothing to after) ∙ l.same_buffer; next_is = omega (arith, l.same_end) }
+-- what a pen put at the beginning of a buffer stands there when the pen is let go
+pub put_over : {A : Type 0} {text end : List A} {p q : Pen A} → Put text p q → p.at ≡ 0 → end ≡ q.buffer.now → end ≡ over text p.buffer.now
+unfolding over over_at
+put_over d z e = let b = d.written.buffer_is in e ∙ rw z at b
 
--- all that is left is written
-pub left_last : {at to next : ℕ} {whole before rest after exit : List ℕ} → Left at whole before to rest after → Written to rest after exit next
-    → Written at whole before exit next
-left_last l d = record { buffer_is = d.buffer_is ∙ l.same_buffer; next_is = d.next_is ∙ l.same_end }
+-- of a whole text, which a pen began to put as `before`, the rest is left: the pen has room for it, and whatever puts it puts the whole
+pub record Left {A : Type 0} (whole : List A) (before : Pen A) (rest : List A) (now : Pen A) : Type 0 where
+  pub fits : LongEnough rest now
+  pub completes : {exit : Pen A} → Put rest now exit → Put whole before exit
 
--- a piece is written of what is left
-module _ {at to : ℕ} {whole before after : List ℕ} (text rest : List ℕ) (l : Left at whole before to (text ++ rest) after) where
-  pub left_fits : LongEnough to text after
+pub left_starts : {A : Type 0} {whole : List A} {p : Pen A} → LongEnough whole p → Left whole p whole p
+left_starts h = record { fits = h; completes = λ d. d }
+
+pub left_ends : {A : Type 0} {whole : List A} {before now : Pen A} → Left whole before [] now → Put whole before now
+left_ends {now = now} l = l.completes (put_nothing now)
+
+-- a piece is put of what is left
+module _ {A : Type 0} {whole : List A} {before now : Pen A} (text rest : List A) (l : Left whole before (text ++ rest) now) where
+  pub left_fits : LongEnough text now
   left_fits = omega (arith, l.fits, length-append text rest)
 
-  pub left_goes : {next : ℕ} {again : List ℕ} → Written to text after again next → Left at whole before next rest again
-  left_goes {next} {again} d =
-      let same : length again ≡ length after = ap length d.buffer_is ∙ over_length to text after left_fits in
-      record {
-        same_buffer = rw (d.buffer_is, d.next_is, over_both to (to + length text) text rest after (omega (arith, left_fits)) refl) l.same_buffer;
-        same_end = omega (arith, d.next_is, l.same_end, length-append text rest);
-        same_length = same ∙ l.same_length;
-        fits = omega (arith, d.next_is, l.fits, length-append text rest);
-      }
-
--- a text that is copied byte by byte
-pub copied_goes : {at i : ℕ} {text before after : List ℕ} → i < length text
-    → Left at text before (at + i) (drop i text) after → Left at text before (at + (i + 1)) (drop (i + 1) text) (set after (at + i) (get_or text i 0))
-copied_goes {at} {i} {text} {before} {after} h l =
-    let b = get_or text i 0 in
-    let rest = drop (i + 1) text in
-    let split : drop i text ≡ (b ∷ []) ++ rest = rw add-one (drop-cons text i 0 h) in
-    let place : at + i + 1 ≡ at + (i + 1) = omega arith in
-    let l' = rw split at l in
-    let fits : at + i < length after = omega (arith, left_fits (b ∷ []) rest l') in
-    rw (← place) (left_goes (b ∷ []) rest l' (written_byte (at + i) b after fits))
-
-pub copied_ends : {at i to : ℕ} {text before after : List ℕ} → length text ≤ i → Left at text before to (drop i text) after
-    → Written at text before after to
-copied_ends {at} {i} {to} {text} h l = left_ends (rw (drop_of_length-le text h) at l)
-
--- a text of four pieces, written one after the other
-module _ (at : ℕ) (whole before s t u v : List ℕ) (is : whole ≡ s ++ (t ++ (u ++ v))) (fits : LongEnough at whole before) where
-  begun : Left at whole before at (s ++ (t ++ (u ++ v))) before
-  begun = subst (λ rest. Left at whole before at rest before) is (left_starts fits)
-
-  pub first_fits : LongEnough at s before
-  first_fits = left_fits s _ begun
-
-  module _ {m : ℕ} {p : List ℕ} (d : Written at s before p m) where
-    after_first : Left at whole before m (t ++ (u ++ v)) p
-    after_first = left_goes s _ begun d
-
-    pub second_fits : LongEnough m t p
-    second_fits = left_fits t _ after_first
-
-    module _ {n : ℕ} {q : List ℕ} (e : Written m t p q n) where
-      after_second : Left at whole before n (u ++ v) q
-      after_second = left_goes t _ after_first e
-
-      pub third_fits : LongEnough n u q
-      third_fits = left_fits u _ after_second
-
-      module _ {k : ℕ} {r : List ℕ} (f : Written n u q r k) where
-        after_third : Left at whole before k v r
-        after_third = left_goes u v after_second f
-
-        pub fourth_fits : LongEnough k v r
-        fourth_fits = after_third.fits
-
-        pub four_written : {next : ℕ} {exit : List ℕ} → Written k v r exit next → Written at whole before exit next
-        four_written g = left_last after_third g
+  pub left_goes : {next : Pen A} → Put text now next → Left whole before rest next
+  left_goes d = record {
+    fits = omega (arith, l.fits, length-append text rest);
+    completes = λ e. l.completes (put_both left_fits d e);
+  }

@@ -1,72 +1,59 @@
-// Text written into a lent buffer: bytes, numbers and lines of numbers. Each function takes the place where its text begins and
-// answers the place after it; the rest of the buffer keeps what it holds.
+// Text put into a lent buffer: a pen, and what it puts there, bytes, numbers and lines of numbers. The rest of the buffer keeps what it
+// holds.
 #![tactic(auto)]
 
-ghost use Rattle.std.specs.Prelude.{◌<◌, [], ◌∷◌, length};
-ghost use Rattle.text.specs.Written.{LongEnough, Written};
-ghost use Rattle.text.specs.Text.{decimal, others, line, labelled};
+ghost use Rattle.std.specs.Prelude.{◌<◌, length};
+ghost use Rattle.text.specs.Text.{decimal, others, line};
+ghost use Rattle.text.specs.Written.{LongEnough, Put};
 
-// One byte.
-pub fn put_byte(buffer: &mut [u8], at: usize, byte: u8) -> usize
-    requires { at < length buffer.old }
-    ensures { Written at (byte ∷ []) buffer.old buffer.new result }
-{
-    buffer[at] = byte;
-    at + 1
+// The place in a buffer where the next text goes.
+#[derive(Drop)]
+pub struct Pen<'a, T> {
+    pub buffer: &'a mut [T],
+    pub at: usize,
 }
 
-// A text as it is.
-pub fn put_text(buffer: &mut [u8], at: usize, text: &[u8]) -> usize
-    requires { LongEnough at text.now buffer.old }
-    ensures { Written at text.now buffer.old buffer.new result }
-{
-    let mut i = 0;
-    while i < text.len() {
-        buffer[at + i] = text[i];
-        i += 1;
+impl<T: Copy> Pen<'_, T> {
+    // A text as it is.
+    pub fn put(&mut self, text: &[T])
+        requires { LongEnough text.now self.old }
+        ensures { Put text.now self.old self.new }
+    {
+        let end = self.at + text.len();
+        self.buffer[self.at..end].copy_from_slice(text);
+        self.at = end;
     }
-    at + i
 }
 
-// A number in decimal digits.
-pub fn put_number(buffer: &mut [u8], at: usize, n: u64) -> usize
-    requires { LongEnough at (decimal n) buffer.old }
-    ensures { Written at (decimal n) buffer.old buffer.new result }
-{
-    let mut digits = [0u8; 20];
-    let k = io::decimal(n, &mut digits);
-    put_text(buffer, at, &digits[..k])
-}
-
-// The rest of a line: a blank before each number, then the line end.
-pub fn put_others(buffer: &mut [u8], at: usize, numbers: &[u64]) -> usize
-    requires { LongEnough at (others numbers.now) buffer.old }
-    ensures { Written at (others numbers.now) buffer.old buffer.new result }
-{
-    let mut to = at;
-    let mut i = 0;
-    while i < numbers.len() {
-        to = put_byte(buffer, to, b' ');
-        to = put_number(buffer, to, numbers[i]);
-        i += 1;
+impl Pen<'_, u8> {
+    // A number in decimal digits.
+    pub fn put_number(&mut self, n: u64)
+        requires { LongEnough (decimal n) self.old }
+        ensures { Put (decimal n) self.old self.new }
+    {
+        let mut digits = [0u8; 20];
+        let k = io::decimal(n, &mut digits);
+        self.put(&digits[..k]);
     }
-    put_byte(buffer, to, b'\n')
-}
 
-// A line of at least one number.
-pub fn put_line(buffer: &mut [u8], at: usize, numbers: &[u64]) -> usize
-    requires { (0 < length numbers.now) × LongEnough at (line numbers.now) buffer.old }
-    ensures { Written at (line numbers.now) buffer.old buffer.new result }
-{
-    let to = put_number(buffer, at, numbers[0]);
-    put_others(buffer, to, &numbers[1..])
-}
+    // The rest of a line: a blank before each number, then the line end.
+    pub fn put_others(&mut self, numbers: &[u64])
+        requires { LongEnough (others numbers.now) self.old }
+        ensures { Put (others numbers.now) self.old self.new }
+    {
+        for n in numbers {
+            self.put(b" ");
+            self.put_number(*n);
+        }
+        self.put(b"\n");
+    }
 
-// A line that begins with a word.
-pub fn put_labelled(buffer: &mut [u8], at: usize, label: &[u8], numbers: &[u64]) -> usize
-    requires { LongEnough at (labelled label.now numbers.now) buffer.old }
-    ensures { Written at (labelled label.now numbers.now) buffer.old buffer.new result }
-{
-    let to = put_text(buffer, at, label);
-    put_others(buffer, to, numbers)
+    // A line of at least one number.
+    pub fn put_line(&mut self, numbers: &[u64])
+        requires { (0 < length numbers.now) × LongEnough (line numbers.now) self.old }
+        ensures { Put (line numbers.now) self.old self.new }
+    {
+        self.put_number(numbers[0]);
+        self.put_others(&numbers[1..]);
+    }
 }

@@ -1,8 +1,9 @@
 -- What a call keeps that no row of the table refuses, and the two ways to answer it.
-use Prim.Native.Nat.{ℕ}
+use Prim.Native.Nat.{ℕ, ◌≤◌}
 use mathlib.Core.Path.{◌≡◌, ◌∙◌}
 use mathlib.Core.Bool.{false}
 use mathlib.Core.List.{List}
+use native.Mathlib.Omega.{arith}
 use lib.Dec.{eqb, ltb}
 use lib.ListN.{length}
 use borrow.Author.Tests.{ltb-false, eq-eqb}
@@ -31,6 +32,9 @@ module _ (c : Call) where
 
     pub view_suffices : ViewSuffices c
     view_suffices = ltb-false _ _ (row_fails _ _ rows_pass.1)
+
+    pub outline_fits : length c.outline ≤ length c.view
+    outline_fits = omega (arith, view_suffices, outline_formed.whole)
 
   module _ (shown : List ℕ → List ℕ) where
     -- a view is written

@@ -13,6 +13,7 @@ use Rattle.outline.specs.Answer.{is_accepted}
 use Rattle.laws.proofs.Accepted.{SameLinksAndPlates, formed_accepted, same_formed}
 use Rattle.text.specs.Text.{texts}
 use Rattle.text.specs.Written.{LongEnough}
+use Rattle.text.specs.declared.Pen.{Pen}
 use Rattle.text.proofs.Texts.{texts_ext}
 use Rattle.records.proofs.Records.{Fields, record_length, records_length, records_at, fields_back}
 use Rattle.view.specs.Demands.{Cleared, AgreeButPricesAndLocks}
@@ -28,13 +29,10 @@ pub buyer_length : (o : List ℕ) → length (buyer_view o) ≡ 16 * size o
 unfolding buyer_view records
 buyer_length o = records_length (buyer_record o) (sixteen o) 1 (size o)
 
--- a record of sixteen bytes fits where a cleared one does, and all cleared ones fit where there is room for sixteen bytes each
-pub record_fits : {o view : List ℕ} {r at : ℕ} → RecordFits o r view at
-    → (next first branch price plate : ℕ) → LongEnough at (record_bytes next first branch price plate) view
-record_fits {o} {r = r} fits next first branch price plate = omega (arith, fits.room, sixteen o r, record_length next first branch price plate)
-
-pub records_fit : (o view : List ℕ) → 16 * size o ≤ length view → LongEnough 0 (texts (buyer_record o) (from 1 (size o))) view
-records_fit o view h = omega (arith, records_length (buyer_record o) (sixteen o) 1 (size o))
+-- any record fits where a cleared one does
+pub record_fits : {o : List ℕ} {r : ℕ} {pen : Pen ℕ} → RecordFits o r pen
+    → (next first branch price plate : ℕ) → LongEnough (record_bytes next first branch price plate) pen
+record_fits {o} {r} fits next first branch price plate = omega (arith, fits.room, sixteen o r, record_length next first branch price plate)
 
 -- accepted or not, outlines that agree except in prices and locks give the same bytes
 pub buyer_alike : (o p : List ℕ) → AgreeButPricesAndLocks o p → buyer_view o ≡ buyer_view p

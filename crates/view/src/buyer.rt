@@ -3,7 +3,7 @@ ghost use Rattle.std.specs.Prelude.{◌≡◌, ◌*◌, ◌≤◌, length};
 ghost use Rattle.lists.specs.Lists.{over};
 ghost use Rattle.refusals.specs.Refusals.{told};
 ghost use Rattle.outline.specs.Outline.{size};
-ghost use Rattle.text.specs.Written.{Written};
+ghost use Rattle.text.specs.Written.{Put};
 ghost use Rattle.view.specs.Answer.{call, Answered};
 ghost use Rattle.view.specs.Inner.{RecordFits};
 ghost use Rattle.view.specs.View.{buyer_record, buyer_view};
@@ -12,18 +12,19 @@ use super::judge::judge;
 use outline::fields::{branch_of, first_of, next_of, plate_of};
 use records::put_record;
 use refusals::Refusal;
+use text::Pen;
 
-// Writes record r without its price and its lock at a place, and answers the next place.
-fn put_cleared(o: &[u8], r: usize, view: &mut [u8], at: usize) -> usize
-    requires { RecordFits o.now r view.old at }
-    ensures { Written at (buyer_record o.now r) view.old view.new result }
+// Puts record r without its price and its lock.
+fn put_cleared(o: &[u8], r: usize, pen: &mut Pen<u8>)
+    requires { RecordFits o.now r pen.old }
+    ensures { Put (buyer_record o.now r) pen.old pen.new }
 {
     let next = next_of(o, r);
     let first = first_of(o, r);
     let branch = branch_of(o, r);
     let price = 0;
     let plate = plate_of(o, r);
-    put_record(view, at, next, first, branch, price, plate)
+    put_record(pen, next, first, branch, price, plate);
 }
 
 // Writes every record so, one after the other.
@@ -31,12 +32,12 @@ fn write_cleared(o: &[u8], view: &mut [u8])
     requires { 16 * size o.now ≤ length view.old }
     ensures { view.new ≡ over (buyer_view o.now) view.old }
 {
-    let n = o.len() / 16;
-    let mut at = 0;
-    let mut r = 1;
-    while r <= n {
-        at = put_cleared(o, r, view, at);
-        r += 1;
+    let mut pen = Pen {
+        buffer: view,
+        at: 0,
+    };
+    for r in 1..=o.len() / 16 {
+        put_cleared(o, r, &mut pen);
     }
 }
 

@@ -5,13 +5,12 @@ ghost use Rattle.view.specs.View.{house_view};
 
 use super::judge::judge;
 use refusals::Refusal;
-use text::put_text;
 
-// Refuses by the first row that holds; else writes the outline's bytes, which `put_text` copies as it copies any.
+// Refuses by the first row that holds; else writes the outline's bytes.
 pub fn view_house(outline: &[u8], view: &mut [u8]) -> Result<(), Refusal>
     ensures { Answered house_view (call outline.now view.old) (told result) view.new }
 {
     judge(outline, view)?;
-    put_text(view, 0, outline);
+    view[..outline.len()].copy_from_slice(outline);
     Ok(())
 }

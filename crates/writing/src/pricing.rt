@@ -1,35 +1,33 @@
 // A chain's pairs, plate then price, by recursion over the links.
-ghost use Rattle.text.specs.Written.{LongEnough, Written};
+ghost use Rattle.text.specs.Written.{LongEnough, Put};
 ghost use Rattle.writing.specs.Text.{own_pair};
 ghost use Rattle.writing.specs.Inner.{chain_pairs, Along};
 ghost use Rattle.outline.specs.Outline.{IsRecord};
 
 use outline::fields::{first_of, is_taxon, next_of, plate_of, price_of};
+use text::Pen;
 
 // The pair of a taxon; a group has none.
-fn put_pair(o: &[u8], r: usize, pairs: &mut [u32], at: usize) -> usize
+fn put_pair(o: &[u8], r: usize, pen: &mut Pen<u32>)
     requires fact { IsRecord o.now r }
-    requires long_enough { LongEnough at (own_pair o.now r) pairs.old }
-    ensures { Written at (own_pair o.now r) pairs.old pairs.new result }
+    requires long_enough { LongEnough (own_pair o.now r) pen.old }
+    ensures { Put (own_pair o.now r) pen.old pen.new }
 {
     if is_taxon(o, r) {
-        pairs[at] = plate_of(o, r);
-        pairs[at + 1] = price_of(o, r);
-        return at + 2;
+        pen.put(&[plate_of(o, r), price_of(o, r)]);
     }
-    at
 }
 
 // The pairs of the chain that a link begins: none for 0.
-pub fn put_pairs(o: &[u8], r: usize, pairs: &mut [u32], at: usize) -> usize
+pub fn put_pairs(o: &[u8], r: usize, pen: &mut Pen<u32>)
     requires along { Along o.now r }
-    requires long_enough { LongEnough at (chain_pairs o.now r) pairs.old }
-    ensures { Written at (chain_pairs o.now r) pairs.old pairs.new result }
+    requires long_enough { LongEnough (chain_pairs o.now r) pen.old }
+    ensures { Put (chain_pairs o.now r) pen.old pen.new }
 {
     if r == 0 {
-        return at;
+        return;
     }
-    let inner = put_pair(o, r, pairs, at);
-    let after = put_pairs(o, first_of(o, r), pairs, inner);
-    put_pairs(o, next_of(o, r), pairs, after)
+    put_pair(o, r, pen);
+    put_pairs(o, first_of(o, r), pen);
+    put_pairs(o, next_of(o, r), pen);
 }

@@ -13,7 +13,7 @@ use super::unwritable::unwritable_at;
 use outline::check;
 use outline::rules::taxa_of;
 use refusals::Refusal;
-use text::put_byte;
+use text::Pen;
 
 // Writes an outline for which no row holds.
 fn write_all(outline: &[u8], text: &mut [u8], pairs: &mut [u32])
@@ -21,9 +21,17 @@ fn write_all(outline: &[u8], text: &mut [u8], pairs: &mut [u32])
     ensures text_after { text.new ≡ over (outline_text outline.now) text.old }
     ensures pairs_after { pairs.new ≡ over (outline_pairs outline.now) pairs.old }
 {
-    let end = put_chain(outline, 1, text, 0);
-    put_byte(text, end, 59);
-    put_pairs(outline, 1, pairs, 0);
+    let mut pen = Pen {
+        buffer: text,
+        at: 0,
+    };
+    put_chain(outline, 1, &mut pen);
+    pen.put(b";");
+    let mut pen = Pen {
+        buffer: pairs,
+        at: 0,
+    };
+    put_pairs(outline, 1, &mut pen);
 }
 
 // Writes an outline as text and price pairs, plate then price. The sizes are counted before anything is written.

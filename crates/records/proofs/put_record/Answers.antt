@@ -1,42 +1,16 @@
--- `records::put_record` meets its contract: the five fields are written one after the other.
+-- `records::put_record` meets its contract: the five fields are put one after the other.
+use Rattle.std.proofs.Common.{◌∙◌}
 use Rattle.outline.specs.Outline.{record_bytes}
-use Rattle.text.proofs.Writing.{left_starts, left_fits, left_goes, left_last}
+use Rattle.text.proofs.Writing.{left_starts, left_goes}
+use Rattle.records.proofs.Records.{two_bytes, four_bytes}
 use Rattle.records.proofs.put_record.Goals as goal
-
-pub put_short-to-requires : goal.put_short-to-requires
-unfolding record_bytes
-put_short-to-requires c = left_fits _ _ (left_starts c.requires)
-
-pub put_short-to-requires-2 : goal.put_short-to-requires-2
-unfolding record_bytes
-put_short-to-requires-2 c = left_fits _ _ (left_goes _ _ (left_starts c.requires) c.put_short-to.ensures)
-
-pub put_long-to-requires : goal.put_long-to-requires
-unfolding record_bytes
-put_long-to-requires c =
-    left_fits _ _ (left_goes _ _ (left_goes _ _ (left_starts c.requires) c.put_short-to.ensures) c.put_short-to-2.ensures)
-
-pub put_long-to-requires-2 : goal.put_long-to-requires-2
-unfolding record_bytes
-put_long-to-requires-2 c =
-    left_fits _ _
-    (left_goes _ _ (left_goes _ _ (left_goes _ _ (left_starts c.requires) c.put_short-to.ensures) c.put_short-to-2.ensures)
-    c.put_long-to.ensures)
-
-pub put_long-requires : goal.put_long-requires
-unfolding record_bytes
-put_long-requires c =
-    (left_goes _ _
-    (left_goes _ _ (left_goes _ _ (left_goes _ _ (left_starts c.requires) c.put_short-to.ensures) c.put_short-to-2.ensures)
-    c.put_long-to.ensures)
-    c.put_long-to-2.ensures).fits
 
 pub returns : goal.returns
 unfolding record_bytes
 returns c =
-    left_last
-    (left_goes _ _
-    (left_goes _ _ (left_goes _ _ (left_goes _ _ (left_starts c.requires) c.put_short-to.ensures) c.put_short-to-2.ensures)
-    c.put_long-to.ensures)
-    c.put_long-to-2.ensures)
-    c.put_long.ensures
+    let next = rw (c.to_le_bytes.ensures ∙ two_bytes c.args.next) at c.put.ensures in
+    let first = rw (c.to_le_bytes-2.ensures ∙ two_bytes c.args.first) at c.put-2.ensures in
+    let branch = rw (c.to_le_bytes-3.ensures ∙ four_bytes c.args.branch) at c.put-3.ensures in
+    let price = rw (c.to_le_bytes-4.ensures ∙ four_bytes c.args.price) at c.put-4.ensures in
+    let plate = rw (c.to_le_bytes-5.ensures ∙ four_bytes c.args.plate) at c.put-5.ensures in
+    (left_goes _ _ (left_goes _ _ (left_goes _ _ (left_goes _ _ (left_starts c.requires) next) first) branch) price).completes plate

@@ -1,6 +1,6 @@
 -- `reading::reader::place` meets its contract: each way out is a row, or none holds.
 use Rattle.std.proofs.Common.{sym, ◌∙◌}
-use Rattle.lists.specs.Lists.{over, over_at}
+use Rattle.lists.specs.Lists.{over}
 use Rattle.refusals.proofs.Refusals.{handed_on}
 use Rattle.reading.proofs.Answers.{placed_bad, placed_short, placed_refused, placed_read}
 use Rattle.reading.proofs.reader.place.Goals as goal
@@ -17,7 +17,7 @@ returns-in_err-check_records c =
     (placed_refused _ _ _ (sym c.bad_pairs.ensures ∙ c.if-bad_pairs.false) c.if-outline-o.false _ c.in_err-check_records.ensures)
 
 pub returns : goal.returns
-unfolding over over_at
+unfolding over
 returns c =
     placed_read _ _ _ (sym c.bad_pairs.ensures ∙ c.if-bad_pairs.false) c.if-outline-o.false c.in_ok-check_records.ensures
-    c.put_text.ensures.buffer_is
+    (rw c.copy_from_slice.ensures.after)

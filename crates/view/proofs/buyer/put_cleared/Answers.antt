@@ -1,4 +1,4 @@
--- `view::buyer::put_cleared` meets its contract: the record's own fields are written, but for its price and its lock.
+-- `view::buyer::put_cleared` meets its contract: the record's own fields are put, but for its price and its lock.
 use Rattle.view.specs.View.{buyer_record}
 use Rattle.view.proofs.Cleared.{record_fits}
 use Rattle.view.proofs.buyer.put_cleared.Goals as goal

@@ -1,37 +1,29 @@
 use Rattle.std.proofs.Common.{arith, refl}
-use Rattle.writing.proofs.Along.{pairs_none, first_falls, next_falls, own_fits, members_pairs_fit, rest_pairs_fit, pairs_written}
+use Rattle.text.proofs.Writing.{left_fits, left_goes}
+use Rattle.writing.proofs.Along.{pairs_none, first_falls, next_falls, pairs_left}
 use Rattle.writing.proofs.pricing.+put_pairs.Goals as goal
 
 pub returns-then-r-eq0 : goal.returns-then-r-eq0
-returns-then-r-eq0 t c = pairs_none _ _ _ c.if-r-eq0.true
+returns-then-r-eq0 t c = pairs_none _ _ c.if-r-eq0.true
 
-pub put_pair-inner-requires-clause-long_enough : goal.put_pair-inner-requires-clause-long_enough
-put_pair-inner-requires-clause-long_enough t c =
-    own_fits c.requires.along c.if-r-eq0.false _ c.args.pairs.now refl refl c.requires.long_enough
-
-pub put_pairs-after-requires : goal.put_pairs-after-requires
-put_pairs-after-requires t c =
-    let falls = first_falls c.requires.along c.if-r-eq0.false c.first_of.ensures in (
-      omega (arith, falls.0, c.decreases),
-      (
-        falls.1,
-        members_pairs_fit c.requires.along c.if-r-eq0.false _ _ c.first_of.ensures refl c.requires.long_enough
-            c.put_pair-inner.ensures,
-      ),
-    )
+pub put_pair-requires-clause-long_enough : goal.put_pair-requires-clause-long_enough
+put_pair-requires-clause-long_enough t c =
+    left_fits _ _ (pairs_left c.requires.along c.if-r-eq0.false c.args.pen.now refl refl c.requires.long_enough)
 
 pub put_pairs-requires : goal.put_pairs-requires
 put_pairs-requires t c =
-    let falls = next_falls c.requires.along c.if-r-eq0.false c.next_of.ensures in (
-      omega (arith, falls.0, c.decreases),
-      (
-        falls.1,
-        rest_pairs_fit c.requires.along c.if-r-eq0.false _ _ c.first_of.ensures c.next_of.ensures c.requires.long_enough
-            c.put_pair-inner.ensures c.put_pairs-after.ensures,
-      ),
-    )
+    let falls = first_falls c.requires.along c.if-r-eq0.false c.first_of.ensures in
+    let whole = pairs_left c.requires.along c.if-r-eq0.false c.args.pen.now c.first_of.ensures refl c.requires.long_enough in
+    (omega (arith, falls.0, c.decreases), (falls.1, left_fits _ _ (left_goes _ _ whole c.put_pair.ensures)))
+
+pub put_pairs-requires-2 : goal.put_pairs-requires-2
+put_pairs-requires-2 t c =
+    let falls = next_falls c.requires.along c.if-r-eq0.false c.next_of.ensures in
+    let whole = pairs_left c.requires.along c.if-r-eq0.false c.args.pen.now c.first_of.ensures c.next_of.ensures c.requires.long_enough in
+    let rest = left_goes _ _ (left_goes _ _ whole c.put_pair.ensures) c.put_pairs.ensures in
+    (omega (arith, falls.0, c.decreases), (falls.1, rest.fits))
 
 pub returns : goal.returns
 returns t c =
-    pairs_written c.requires.along c.if-r-eq0.false _ _ c.first_of.ensures c.next_of.ensures c.requires.long_enough
-    c.put_pair-inner.ensures c.put_pairs-after.ensures c.put_pairs.ensures
+    let whole = pairs_left c.requires.along c.if-r-eq0.false c.args.pen.now c.first_of.ensures c.next_of.ensures c.requires.long_enough in
+    (left_goes _ _ (left_goes _ _ whole c.put_pair.ensures) c.put_pairs.ensures).completes c.put_pairs-2.ensures

@@ -1,24 +1,17 @@
 -- `writing::pricing::put_pair` meets its contract.
-use Rattle.std.proofs.Common.{arith, sym, length-set}
-use Rattle.text.proofs.Writing.{written_nothing, written_two}
+use Rattle.std.proofs.Common.{sym, arith}
+use Rattle.text.proofs.Writing.{put_nothing}
 use Rattle.writing.specs.Text.{own_pair}
 use Rattle.writing.proofs.pricing.put_pair.Goals as goal
 
-pub bounds-pairs-at : goal.bounds-pairs-at
+pub put-requires : goal.put-requires
 unfolding own_pair
-bounds-pairs-at c = let room = rw (sym c.if-is_taxon.ensures) at c.requires.long_enough in omega (arith, room)
-
-pub bounds-pairs-at-then-is_taxon : goal.bounds-pairs-at-then-is_taxon
-unfolding own_pair
-bounds-pairs-at-then-is_taxon c =
-    let room = rw (sym c.if-is_taxon.ensures) at c.requires.long_enough in rw length-set (omega (arith, room))
+put-requires c = let room = rw (sym c.if-is_taxon.ensures) at c.requires.long_enough in omega (arith, room)
 
 pub returns-then-is_taxon : goal.returns-then-is_taxon
 unfolding own_pair
-returns-then-is_taxon c =
-    let room = rw (sym c.if-is_taxon.ensures) at c.requires.long_enough in
-    rw (sym c.if-is_taxon.ensures, ← c.plate_of.ensures, ← c.price_of.ensures) (written_two _ _ _ _ room)
+returns-then-is_taxon c = rw (sym c.if-is_taxon.ensures, ← c.plate_of.ensures, ← c.price_of.ensures) c.put.ensures
 
-pub returns : goal.returns
+pub returns-else-is_taxon : goal.returns-else-is_taxon
 unfolding own_pair
-returns c = rw (sym c.if-is_taxon.ensures) (written_nothing _ _)
+returns-else-is_taxon c = rw (sym c.if-is_taxon.ensures) (put_nothing _)
