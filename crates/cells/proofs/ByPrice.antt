@@ -1,26 +1,20 @@
 -- Rows by a price, below it and from there on: a candidate joined with a row, and a row charged with a heading in two parts.
 use Rattle.std.specs.Prelude.{if◌then◌else◌}
+use Rattle.std.proofs.lemmas.Bool.{cases_lt}
 use Prim.Native.Nat.{ℕ, ◌+◌, ◌-◌, ◌<◌, ◌≤◌, min}
 use mathlib.Core.Path.{◌≡◌, refl, sym, ap, ap₂, ◌∙◌}
-use mathlib.Core.Logic.{◌⊎◌, inl, inr, ⊎_elim}
+use mathlib.Core.Logic.{⊎_elim}
 use mathlib.Core.Bool.{Bool, true, false}
 use mathlib.Core.List.{List}
 use native.Mathlib.Omega.{arith}
 use lib.Dec.{leb}
 use lib.ListN.{length}
-use borrow.Author.Tests.{leb-true, leb-false, lt-leb}
+use borrow.Author.Tests.{lt-leb}
 use Rattle.laws.specs.Candidate.{Value, heading, Cand, none, some, better_of, join_of, one_at}
 use Rattle.laws.proofs.Order.{better_none}
 use Rattle.rows.specs.Rows.{Row, join_row}
 use Rattle.cells.specs.Cells.{cell}
 use Rattle.cells.specs.Memory.{row_at, join_from, charge_over, Bettering, ChargingFrom, Charges, Charging}
-
-pub le_or_lt : (m n : ℕ) → (m ≤ n) ⊎ (n < m)
-le_or_lt m n = go (leb m n) refl
-  where
-    go : (t : Bool) → leb m n ≡ t → (m ≤ n) ⊎ (n < m)
-    go true e = inl (leb-true m n e)
-    go false e = inr (leb-false m n e)
 
 -- below the price there is nothing to join
 pub join_below : (c : Cand) (price : ℕ) (x : Row) (b : ℕ) → b < price → join_from c price x b ≡ none
@@ -52,7 +46,7 @@ module _ {l m : List ℕ} {to branch price y w : ℕ} (j : Charges l to branch p
   pub charging_whole : {m' : List ℕ} → Bettering to y 0 n m m' → Charging to branch price y w l m'
   unfolding better_of
   charging_whole {m'} v = record {
-    row = λ b u h. ⊎_elim (from_price b h) (under b h) (le_or_lt price b);
+    row = λ b u h. ⊎_elim (under b h) (from_price b h) (cases_lt b price);
     same = λ k g. v.same k (λ q. omega (arith, g (omega arith))) ∙ above.same k (λ q. g (omega arith));
   }
     where

@@ -1,5 +1,5 @@
 // Rows of candidates in lent memory: one loop over the columns each.
-ghost use Rattle.std.specs.Prelude.{◌≡◌, ◌+◌, ◌*◌, ◌<◌, ◌≤◌, min, length};
+ghost use Rattle.std.specs.Prelude.{◌≡◌, ◌+◌, ◌*◌, ◌<◌, ◌≤◌, length};
 ghost use Rattle.laws.specs.Candidate.{none, better_of};
 ghost use Rattle.cells.specs.Cells.{view, cell};
 ghost use Rattle.cells.specs.Memory.{row_at, Put, RowWritten, Betters, Bettering, BetteringBy, ChargesFrom, ChargingFrom};
@@ -46,10 +46,8 @@ pub fn fill_row(work: &mut [u64], to: usize, c: Candidate, lo: usize, hi: usize)
     requires { 2 * (to + hi) ≤ length work.old }
     ensures { RowWritten to lo hi (λ _. view c) work.old work.new }
 {
-    let mut b = lo;
-    while b < hi {
+    for b in lo..hi {
         put(work, to + b, c);
-        b += 1;
     }
 }
 
@@ -58,11 +56,9 @@ pub fn better_by(work: &mut [u64], to: usize, c: Candidate, lo: usize, hi: usize
     requires { 2 * (to + hi) ≤ length work.old }
     ensures { BetteringBy to (view c) lo hi work.old work.new }
 {
-    let mut b = lo;
-    while b < hi {
+    for b in lo..hi {
         let d = read(work, to + b);
         put(work, to + b, d.better(c));
-        b += 1;
     }
 }
 
@@ -71,12 +67,10 @@ pub fn better_rows(work: &mut [u64], to: usize, x: usize, y: usize, width: usize
     requires { Betters work.old to x y width }
     ensures { Bettering to x y width work.old work.new }
 {
-    let mut b = 0;
-    while b < width {
+    for b in 0..width {
         let c = read(work, x + b);
         let d = column(work, y, b);
         put(work, to + b, c.better(d));
-        b += 1;
     }
 }
 
@@ -94,24 +88,12 @@ pub fn charge_from(
     requires { ChargesFrom work.old to x branch price y width }
     ensures { ChargingFrom to x branch price y width work.old work.new }
 {
-    let mut b = width;
-    while price < b {
-        b -= 1;
+    for b in (price..width).rev() {
         let moved = read(work, x + (b - price));
         let other = column(work, y, b);
         let charged = moved.charged(branch, price as u64);
         put(work, to + b, charged.better(other));
     }
-}
-
-// The lesser of two numbers.
-pub fn least(a: usize, b: usize) -> usize
-    ensures { result ≡ min a b }
-{
-    if a < b {
-        return a;
-    }
-    b
 }
 
 // Moves a row right by the price and charges it with a heading, in place; each column then is the better of that and another
@@ -125,7 +107,7 @@ pub fn charge_row(work: &mut [u64], to: usize, branch: u64, price: usize, y: usi
         return;
     }
     charge_from(work, to, to, branch, price, y, width);
-    better_rows(work, to, y, 0, least(price, width));
+    better_rows(work, to, y, 0, price.min(width));
 }
 
 // What may follow in a column: the better of two rows'. The row at `width` has nothing chosen in any column, so it is not read.
@@ -156,13 +138,11 @@ pub fn join_row(
     requires { Joins work.old to own above cost x y z width }
     ensures { Joining to own above cost x y z width work.old work.new }
 {
-    let mut b = cost;
-    while b < width {
+    for b in cost..width {
         let c = read(work, own + b).charged(0, above as u64);
         let next = follower(work, x, y, b - cost, width);
         let other = column(work, z, b);
         put(work, to + b, c.joined(next).better(other));
-        b += 1;
     }
 }
 
@@ -171,11 +151,9 @@ pub fn add_row(work: &mut [u64], to: usize, y: usize, width: usize)
     requires { Adds work.old to y width }
     ensures { RowWritten to 0 width (row_at work.old y) work.old work.new }
 {
-    let mut b = 0;
-    while b < width {
+    for b in 0..width {
         let c = read(work, to + b);
         let d = column(work, y, b);
         put(work, to + b, c.added(d));
-        b += 1;
     }
 }

@@ -1,5 +1,4 @@
 // Choosing: the call is judged, the table filled and read out, and work cleared.
-ghost use Rattle.std.specs.Prelude.{◌≡◌, length, replicate};
 ghost use Rattle.choice.specs.Answer.{call, told, Answered};
 ghost use Rattle.choice.specs.Inner.{Solvable, Solved};
 
@@ -10,17 +9,6 @@ use super::marks::write_marks;
 use measures::{locks_of, marked};
 use refusals::Refusal;
 use table::{best_at, fill};
-
-// Makes every number 0.
-fn clear(work: &mut [u64])
-    ensures { work.new ≡ replicate (length work.old) 0 }
-{
-    let mut i = 0;
-    while i < work.len() {
-        work[i] = 0;
-        i += 1;
-    }
-}
 
 // Fills the table in work, which is the part that the call takes, writes marks and curve, and clears work.
 fn solve(
@@ -43,7 +31,7 @@ fn solve(
     write_curve(work, width, locks_of(o) as u64, curve);
     let best = best_at(work, width, b);
     write_marks(o, best.set, marks);
-    clear(work);
+    work.fill(0);
     Figures {
         diversity: curve[2 * b],
         cost: curve[2 * b + 1],

@@ -42,12 +42,10 @@ pub fn write_curve(work: &[u64], width: usize, locks: u64, curve: &mut [u32])
         ≡ over (columns (top_diversity work.now width locks) (top_cost work.now width locks) (from 0 width))
         curve.old }
 {
-    let mut b = 0;
-    while b < width {
+    for b in 0..width {
         let column = column_of(best_at(work, width, b), locks);
         curve[2 * b] = column.diversity;
         curve[2 * b + 1] = column.cost;
-        b += 1;
     }
 }
 

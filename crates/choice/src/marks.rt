@@ -12,14 +12,13 @@ pub fn write_marks(o: &[u8], set: u64, marks: &mut [u8])
     ensures { marks.new ≡ over (decode o.now set) marks.old }
 {
     let mut left = set;
-    let mut r = o.len() / 16;
-    while 0 < r {
+    let records = o.len() / 16;
+    for r in (1..=records).rev() {
         if is_taxon(o, r) {
             marks[r - 1] = (left % 2) as u8;
-            left = left / 2;
+            left /= 2;
         } else {
             marks[r - 1] = 0;
         }
-        r -= 1;
     }
 }

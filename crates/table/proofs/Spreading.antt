@@ -1,5 +1,6 @@
 -- The steps of spreading: what each call asks, and what it leaves.
 use Rattle.std.specs.Prelude.{if◌then◌else◌}
+use Rattle.std.proofs.lemmas.Bool.{cases_lt}
 use Prim.Native.Nat.{ℕ, ◌+◌, ◌*◌, ◌-◌, ◌<◌, ◌≤◌}
 use mathlib.Core.Path.{◌≡◌, refl, sym, ap, ap₂, ◌∙◌}
 use mathlib.Core.Logic.{inl, inr, ⊎_elim}
@@ -23,7 +24,7 @@ use Rattle.table.specs.Table.{taxon_worth, TerminalFilled, Finished, TaxonJoins,
 use Rattle.table.specs.Spread.{Running, Bettered, Pairable, TaxonSpreadable, TaxonSpread, Tops, BySingle, ByPairs, ByRow}
 use Rattle.table.proofs.Places.{base_kept, blank_none, idle_nothing, front_inside}
 use Rattle.table.proofs.Pushing.{bounded_locked, bounded_diversity, bounded_cost, bounded_code}
-use Rattle.cells.proofs.ByPrice.{le_or_lt, join_below, join_same, join_row_lem}
+use Rattle.cells.proofs.ByPrice.{join_below, join_same, join_row_lem}
 use Rattle.table.proofs.Terminal.{taxon, terminal_from, charged_taxon, charged_there}
 use Rattle.rows.specs.Bounds.{Bounded}
 
@@ -59,7 +60,7 @@ bettered_from : {w : ℕ} {l m : List ℕ} (v : Value) (x : Row)
 unfolding better_of
 bettered_from {w} {l} {m} v x h = record {
   top = λ b k.
-      ⊎_elim (λ q. h.row b q k) (below b) (le_or_lt v.cost b) ∙ ap (λ c. better_of c (cell l (2 * w + b))) (join_row_lem v x b)
+      ⊎_elim (below b) (λ q. h.row b q k) (cases_lt b v.cost) ∙ ap (λ c. better_of c (cell l (2 * w + b))) (join_row_lem v x b)
       ∙ better_comm (join_row v x b) (cell l (2 * w + b));
   same = λ k g. h.same k (λ q. omega (arith, g (omega arith)));
 }
@@ -79,8 +80,8 @@ module _ {o : List ℕ} {w : ℕ} {l : List ℕ} (running : Running o w l) (r ab
   bettered_single {cost} e v = record {
     top = λ b h.
         rw (← e)
-        (⊎_elim (λ q. rw (le-leb cost b q) (v.row b q h))
-        (λ q. rw (lt-leb cost b q) (v.same (2 * w + b) (λ g. omega arith) ∙ sym (better_none _))) (le_or_lt cost b));
+        (⊎_elim (λ q. rw (lt-leb cost b q) (v.same (2 * w + b) (λ g. omega arith) ∙ sym (better_none _)))
+        (λ q. rw (le-leb cost b q) (v.row b q h)) (cases_lt b cost));
     same = λ k g. v.same k (λ q. omega (arith, g (omega arith)));
   }
 

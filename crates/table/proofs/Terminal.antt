@@ -1,4 +1,5 @@
 -- The row of a taxon by itself: what it shows, how it is filled, and how it is joined where it stands.
+use Rattle.std.proofs.lemmas.Bool.{cases_lt}
 use Prim.Native.Nat.{ℕ, ◌+◌, ◌-◌, ◌<◌, ◌≤◌, min}
 use mathlib.Core.Path.{◌≡◌, refl, sym, ap, ap₂, ◌∙◌}
 use mathlib.Core.Logic.{◌≢◌, inl, inr, ⊎_elim}
@@ -17,7 +18,7 @@ use Rattle.rows.proofs.Sets.{no_record}
 use Rattle.cells.specs.Cells.{cell, locked_of, diversity_of, cost_of}
 use Rattle.cells.specs.Memory.{row_at, RowWritten, join_over, Joins, Joining, Adds}
 use Rattle.table.specs.Table.{taxon_worth, terminal_row, Shows, Terminal, TerminalFilled, Finished, TaxonJoins, taxon_over, TaxonRow}
-use Rattle.cells.proofs.ByPrice.{le_or_lt, join_below, join_same}
+use Rattle.cells.proofs.ByPrice.{join_below, join_same}
 use Rattle.cells.proofs.Words.{none_some}
 
 -- ---- what it shows
@@ -66,8 +67,8 @@ module _ (o : List ℕ) (r : ℕ) {to w n : ℕ} {l m : List ℕ} {c : Cand} (e 
   module _ {m' : List ℕ} {d : Cand} (taxon_here : d ≡ some (taxon o r)) (lengths : RowWritten to (price o r) w (λ _. d) m m') where
     finished : Finished o r to w m'
     finished b h =
-        ⊎_elim (λ q. lengths.row b q h ∙ taxon_here ∙ sym (terminal_from o r b q)) (λ q. lengths.same (to + b) (λ g. absurd (omega arith)) ∙ under b h q)
-        (le_or_lt (price o r) b)
+        ⊎_elim (λ q. lengths.same (to + b) (λ g. absurd (omega arith)) ∙ under b h q) (λ q. lengths.row b q h ∙ taxon_here ∙ sym (terminal_from o r b q))
+        (cases_lt b (price o r))
 
     pub terminal_filled : price o r < w → TerminalFilled o r to w l m'
     terminal_filled cheap = record {
@@ -174,7 +175,7 @@ module _ {o : List ℕ} {r x y to w : ℕ} {l : List ℕ} (j : TaxonJoins o r x 
     pub taxon_row : {l₂ : List ℕ} → Joining to to 0 p x y y w l₁ l₂ → TaxonRow o r x y to w l l₂
     unfolding better_of
     taxon_row {l₂} v = record {
-      row = λ b u h. ⊎_elim (from_price b h) (under_price b h) (le_or_lt p b);
+      row = λ b u h. ⊎_elim (under_price b h) (from_price b h) (cases_lt b p);
       same = λ k g. v.same k (λ q. g (omega arith)) ∙ h₁.same k (λ q. omega (arith, g q));
     }
       where

@@ -1,11 +1,7 @@
 -- `cells::memory::fill_row` meets its contract: each turn puts one column.
-use Rattle.std.proofs.Common.{◌-◌}
 use Rattle.cells.specs.Cells.{view}
 use Rattle.cells.proofs.RowWritten.{Filling}
 use Rattle.cells.proofs.memory.fill_row.Given as goal
 
 abbrev pub invariant-loop-b : goal.invariant-loop-b
 invariant-loop-b l = Filling l.to l.lo l.hi (λ _. view l.c) l.initial.work l.work l.lo l.b
-
-abbrev pub decreases-loop-b : goal.decreases-loop-b
-decreases-loop-b l = l.hi - l.b

@@ -12,6 +12,6 @@ overflow_cast-result c =
 
 pub returns : goal.returns
 returns c =
-    let cleared = c.clear.ensures ∙ ap (λ n. replicate n 0) c.fill.auto.work in
+    let cleared = c.fill-2.ensures.after (λ _ e. e) ∙ ap (λ n. replicate n 0) c.fill.auto.work in
     solved _ c.requires c.fill.new.work c.fill.ensures c.best_at-best.result c.best_at-best.ensures
     c.write_marks.ensures c.locks_of.ensures c.write_curve.ensures cleared c.marked.ensures.taxa_is c.spare_of.ensures

@@ -4,6 +4,3 @@ use Rattle.choice.proofs.marks.write_marks.Given as goal
 
 abbrev pub invariant-loop-r : goal.invariant-loop-r
 invariant-loop-r l = Reading l.o l.set l.initial.marks l.marks l.left l.r
-
-abbrev pub decreases-loop-r : goal.decreases-loop-r
-decreases-loop-r l = l.r

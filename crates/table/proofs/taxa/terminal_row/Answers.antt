@@ -7,7 +7,7 @@ use Rattle.table.proofs.taxa.terminal_row.Goals as goal
 
 pub returns-then-price-width : goal.returns-then-price-width
 returns-then-price-width c =
-    terminal_filled _ _ (rw c.price_of-price.ensures at c.least.ensures) (c.read-nothing.ensures ∙ c.requires.nothing) c.fill_row.ensures
+    terminal_filled _ _ (rw c.price_of-price.ensures at c.min.ensures) (c.read-nothing.ensures ∙ c.requires.nothing) c.fill_row.ensures
     (c.taxon_of-taxon.ensures
     ∙ ap₂ (λ d p. some (taxon_worth c.args.o.now c.args.r d p)) c.branch_of.ensures c.price_of-price.ensures)
     (rw c.price_of-price.ensures at c.fill_row-then-price-width.ensures)
@@ -15,5 +15,5 @@ returns-then-price-width c =
 
 pub returns-else-price-width : goal.returns-else-price-width
 returns-else-price-width c =
-    terminal_dear _ _ (rw c.price_of-price.ensures at c.least.ensures) (c.read-nothing.ensures ∙ c.requires.nothing) c.fill_row.ensures
+    terminal_dear _ _ (rw c.price_of-price.ensures at c.min.ensures) (c.read-nothing.ensures ∙ c.requires.nothing) c.fill_row.ensures
     (omega arith)
