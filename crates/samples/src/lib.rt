@@ -5,4 +5,5 @@ pub mod buffers;
 pub mod headings;
 pub mod locks;
 pub mod outlines;
+pub mod ways;
 pub mod words;
