@@ -1,6 +1,6 @@
 // Outlines whose groups have headings (document 02, §2).
 use super::outlines::Sample;
-use outline::fields::is_taxon;
+use outline::fields::{is_taxon, price_of};
 
 impl Sample {
     // The same records, each group with this heading.
@@ -12,6 +12,11 @@ impl Sample {
             }
         }
         headed
+    }
+
+    // Whether a group has a price above 0.
+    pub fn has_heading(&self) -> bool {
+        (1..=self.len).any(|r| !is_taxon(self.bytes(), r) && price_of(self.bytes(), r) != 0)
     }
 }
 

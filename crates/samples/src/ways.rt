@@ -2,7 +2,7 @@
 use std::fmt;
 
 // A way's number is the one that calls take.
-#[derive(Clone, Copy)]
+#[derive(Clone, Copy, PartialEq, Eq)]
 pub enum Way {
     Rooted = 0,
     Unrooted = 1,
