@@ -1,8 +1,8 @@
 // The line that is printed for a call.
 use reading::{Answer, read};
 use samples::buffers::{changed, front};
-use samples::words::{Fields, Listed, Refused};
-use std::{fmt, io};
+use samples::words::{Fields, Listed, Refused, Signs};
+use std::io;
 
 // What each byte of the buffer holds before the call.
 const BYTE: u8 = 170;
@@ -12,22 +12,6 @@ pub const SEVEN: [u32; 2] = [7, 1];
 
 // Pairs for plates 7 and 8.
 pub const SEVEN_AND_EIGHT: [u32; 4] = [7, 1, 8, 2];
-
-// A text, with the number of each byte that is no sign of print.
-#[derive(Clone, Copy)]
-struct Signs<'a>(&'a [u8]);
-
-impl fmt::Display for Signs<'_> {
-    fn fmt<W: fmt::Write>(&self, f: &mut fmt::Formatter<W>) -> fmt::Result {
-        for byte in self.0 {
-            match byte {
-                b' '..=b'~' => write!(f, "{}", *byte as char)?,
-                _ => write!(f, "<{byte}>")?,
-            }
-        }
-        Ok(())
-    }
-}
 
 // A call, and the part of its line that has the answer.
 fn answer(rt: &impl Print, text: &[u8], pairs: &[u32], outline: &mut [u8]) -> io::Result<()> {

@@ -49,3 +49,19 @@ impl<T: fmt::Display> fmt::Display for Listed<'_, T> {
         Ok(())
     }
 }
+
+// A text, with the number of each byte that is no sign of print.
+#[derive(Clone, Copy)]
+pub struct Signs<'a>(pub &'a [u8]);
+
+impl fmt::Display for Signs<'_> {
+    fn fmt<W: fmt::Write>(&self, f: &mut fmt::Formatter<W>) -> fmt::Result {
+        for byte in self.0 {
+            match byte {
+                b' '..=b'~' => write!(f, "{}", *byte as char)?,
+                _ => write!(f, "<{byte}>")?,
+            }
+        }
+        Ok(())
+    }
+}
