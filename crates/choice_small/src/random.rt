@@ -1,5 +1,5 @@
 // Outlines by a linear congruential generator: from 4 to 11 records, and at most 6 taxa.
-ghost use Rattle.std.specs.Prelude.{◌<◌, ◌≤◌};
+ghost use Rattle.std.specs.Prelude.{◌<◌, ◌≤◌, length};
 
 use super::trial::Trial;
 use samples::outlines::Sample;
@@ -7,14 +7,6 @@ use std::io;
 
 #[derive(Clone, Copy)]
 struct Generator(u64);
-
-// The links of a record, and the last member of its group so far.
-#[derive(Clone, Copy)]
-struct Links {
-    next: u32,
-    first: u32,
-    last: usize,
-}
 
 // The highest length and the highest heading that are drawn for an outline.
 #[derive(Clone, Copy)]
@@ -50,65 +42,51 @@ impl Generator {
         (self.0 / 65536) as u32 % most
     }
 
-    // An earlier record for record q to be a member of. Once there are 6 taxa it is one that has no members: it is no taxon
-    // from then on, and q is one.
-    fn parent(&mut self, links: &[Links; 12], taxa: u32, q: usize) -> usize
-        requires { (2 ≤ q) × (q < 12) }
-        ensures { (1 ≤ result) × (result < q) }
-    {
-        let p = 1 + self.draw(q as u32 - 1) as usize;
-        if taxa == 6 && links[p].first != 0 {
-            return q - 1;
-        }
-        p
-    }
-
-    // The links of n records.
-    fn links(&mut self, n: usize) -> [Links; 12]
+    // For each record from the second to the last, n, an earlier one for it to be a member of. Once there are 6 taxa it is one
+    // that has no members: it is no taxon from then on, and the member is one.
+    fn parents(&mut self, n: usize) -> [usize; 12]
         requires { n < 12 }
     {
-        let mut links = [Links {
-            next: 0,
-            first: 0,
-            last: 0,
-        }; 12];
-        let mut taxa = 1u32;
+        let mut parents = [0; 12];
+        let mut taxa = 1;
         for q in 2..=n {
-            let p = self.parent(&links, taxa, q);
-            let before = links[p].last;
-            if before == 0 {
-                links[p].first = q as u32;
+            let p = 1 + self.draw(q as u32 - 1) as usize;
+            if !parents.contains(&p) {
+                parents[q] = p;
+            } else if taxa < 6 {
+                parents[q] = p;
+                taxa += 1;
             } else {
-                taxa = taxa.wrapping_add(1);
-                if before < 12 {
-                    links[before].next = q as u32;
-                }
+                parents[q] = q - 1;
             }
-            links[p].last = q;
         }
-        links
+        parents
     }
 
-    // The fields of record r. The price of a taxon is below 5.
-    fn fields(&mut self, links: Links, r: usize, highest: Highest) -> [u32; 5]
-        requires { r < 12 }
+    // The fields of record r, by the parents of the records. The price of a taxon is below 5.
+    fn fields(&mut self, parents: &[usize], r: usize, highest: Highest) -> [u32; 5]
+        requires { (r < length parents.now) × (length parents.now ≤ 12) }
     {
+        let later = &parents[r + 1..];
+        let next = later.iter().position(|p| *p == parents[r]);
+        let next = next.map_or(0, |i| r + 1 + i) as u32;
+        let first = parents.iter().position(|p| *p == r).unwrap_or(0) as u32;
         let length = self.draw(highest.length as u32 + 1);
-        if links.first != 0 {
+        if first != 0 {
             let heading = self.draw(highest.heading as u32 + 1);
-            return [links.next, links.first, length, heading, 0];
+            return [next, first, length, heading, 0];
         }
-        [links.next, 0, length, self.draw(5), r as u32]
+        [next, 0, length, self.draw(5), r as u32]
     }
 
     // An outline of n records.
     fn outline(&mut self, n: usize, highest: Highest) -> Sample
         requires { n < 12 }
     {
-        let links = self.links(n);
+        let parents = self.parents(n);
         let mut outline = Sample::blank(n);
         for r in 1..=n {
-            outline = outline.with(r, self.fields(links[r], r, highest));
+            outline = outline.with(r, self.fields(&parents[..=n], r, highest));
         }
         outline
     }
