@@ -1,230 +1,150 @@
 // Cases of document 02, §2: a group with a chosen taxon below it is paid for, once.
-use super::show::{BufferSizes, case, case_with_buffers, rooted, unrooted};
-use samples::headings::{deep_pair, free_pair, headed, two_families};
-use samples::outlines::{comb, one_record, put, put_price, star, tree_a_with_headings};
-use samples::words::Output;
+use super::show::{Sizes, case, case_with, chosen};
+use samples::headings::{deep_pair, free_pair, two_families};
+use samples::outlines::{Sample, comb, star, tree_a_with_headings};
+use samples::ways::Way::{Rooted, Unrooted};
+use std::io;
 
 // With a heading of 2 plate 12 costs 3, and plate 13 still 2. With one of 1 both cost 2.
-pub fn group_heading(out: &mut Output) {
+pub fn group_heading(rt: &(impl Print + AllocGlobal)) -> io::Result<()> {
+    let cases = [
+        (Rooted, 2, "plate 13"),
+        (Rooted, 3, "plate 13"),
+        (Rooted, 8, "all three"),
+        (Unrooted, 8, "all three"),
+    ];
     let a = tree_a_with_headings(0, 2);
-    rooted(out, b"tree A, group heading 2", &a, 5, 2, b"plate 13");
-    rooted(out, b"tree A, group heading 2", &a, 5, 3, b"plate 13");
-    rooted(out, b"tree A, group heading 2", &a, 5, 8, b"all three");
-    unrooted(out, b"tree A, group heading 2", &a, 5, 8, b"all three");
+    chosen(rt, "tree A, group heading 2", a.bytes(), &cases)?;
+    let cases = [(Rooted, 2, "the lower record")];
     let tied = tree_a_with_headings(0, 1);
-    rooted(
-        out,
-        b"tree A, group heading 1",
-        &tied,
-        5,
-        2,
-        b"the lower record",
-    );
+    chosen(rt, "tree A, group heading 1", tied.bytes(), &cases)
 }
 
-pub fn two_headings(out: &mut Output) {
+pub fn two_headings(rt: &(impl Print + AllocGlobal)) -> io::Result<()> {
+    let cases = [
+        (Unrooted, 5, "nothing"),
+        (Unrooted, 6, "plates 12 and 13"),
+        (Rooted, 9, "all three"),
+        (Unrooted, 9, "all three"),
+    ];
     let a = tree_a_with_headings(1, 2);
-    unrooted(out, b"tree A, headings 1 and 2", &a, 5, 5, b"nothing");
-    unrooted(
-        out,
-        b"tree A, headings 1 and 2",
-        &a,
-        5,
-        6,
-        b"plates 12 and 13",
-    );
-    rooted(out, b"tree A, headings 1 and 2", &a, 5, 9, b"all three");
-    unrooted(out, b"tree A, headings 1 and 2", &a, 5, 9, b"all three");
+    chosen(rt, "tree A, headings 1 and 2", a.bytes(), &cases)
 }
 
 // Two taxa at 1 under a root heading of 3: one costs 4, both cost 5.
-pub fn root_heading(out: &mut Output) {
-    let mut two = star(3, 4, 1);
-    put_price(&mut two, 1, 3);
-    rooted(out, b"root heading 3", &two, 3, 3, b"nothing");
-    rooted(out, b"root heading 3", &two, 3, 4, b"the lower record");
-    rooted(out, b"root heading 3", &two, 3, 5, b"both");
-    unrooted(out, b"root heading 3", &two, 3, 4, b"nothing");
-    unrooted(out, b"root heading 3", &two, 3, 5, b"both");
+pub fn root_heading(rt: &(impl Print + AllocGlobal)) -> io::Result<()> {
+    let cases = [
+        (Rooted, 3, "nothing"),
+        (Rooted, 4, "the lower record"),
+        (Rooted, 5, "both"),
+        (Unrooted, 4, "nothing"),
+        (Unrooted, 5, "both"),
+    ];
+    let two = star(3, 4, 1).with_price(1, 3);
+    chosen(rt, "root heading 3", two.bytes(), &cases)
 }
 
 // The two taxa part at record 2. The heading of record 1, above that, is paid for too.
-pub fn above_the_parting(out: &mut Output) {
+pub fn above_the_parting(rt: &(impl Print + AllocGlobal)) -> io::Result<()> {
+    let cases = [
+        (Rooted, 6, "both"),
+        (Unrooted, 5, "nothing"),
+        (Unrooted, 6, "both"),
+    ];
     let pair = deep_pair(1, 2);
-    rooted(out, b"a pair below headings 1 and 2", &pair, 4, 6, b"both");
-    unrooted(
-        out,
-        b"a pair below headings 1 and 2",
-        &pair,
-        4,
-        5,
-        b"nothing",
-    );
-    unrooted(out, b"a pair below headings 1 and 2", &pair, 4, 6, b"both");
+    chosen(rt, "a pair below headings 1 and 2", pair.bytes(), &cases)
 }
 
-pub fn dearer_than_count(out: &mut Output) {
+pub fn dearer_than_count(rt: &(impl Print + AllocGlobal)) -> io::Result<()> {
+    let cases = [(Rooted, 8, "plate 13"), (Unrooted, 8, "nothing")];
     let group = tree_a_with_headings(0, 9);
-    rooted(out, b"tree A, group heading 9", &group, 5, 8, b"plate 13");
-    unrooted(out, b"tree A, group heading 9", &group, 5, 8, b"nothing");
+    chosen(rt, "tree A, group heading 9", group.bytes(), &cases)?;
     let root = tree_a_with_headings(9, 0);
-    rooted(out, b"tree A, root heading 9", &root, 5, 8, b"nothing");
+    chosen(
+        rt,
+        "tree A, root heading 9",
+        root.bytes(),
+        &[(Rooted, 8, "nothing")],
+    )
 }
 
 // One taxon of each family is worth more than two cousins. But cousins share a heading.
-pub fn cousins(out: &mut Output) {
+pub fn cousins(rt: &(impl Print + AllocGlobal)) -> io::Result<()> {
+    let cases = [(Rooted, 2, "one of each"), (Unrooted, 2, "one of each")];
     let free = two_families(0);
-    rooted(
-        out,
-        b"families without headings",
-        &free,
-        8,
-        2,
-        b"one of each",
-    );
-    unrooted(
-        out,
-        b"families without headings",
-        &free,
-        8,
-        2,
-        b"one of each",
-    );
+    chosen(rt, "families without headings", free.bytes(), &cases)?;
+    let cases = [
+        (Rooted, 5, "cousins"),
+        (Unrooted, 5, "cousins"),
+        (Rooted, 8, "one of each"),
+        (Unrooted, 8, "one of each"),
+    ];
     let dear = two_families(3);
-    rooted(out, b"families with headings 3", &dear, 8, 5, b"cousins");
-    unrooted(out, b"families with headings 3", &dear, 8, 5, b"cousins");
-    rooted(
-        out,
-        b"families with headings 3",
-        &dear,
-        8,
-        8,
-        b"one of each",
-    );
-    unrooted(
-        out,
-        b"families with headings 3",
-        &dear,
-        8,
-        8,
-        b"one of each",
-    );
+    chosen(rt, "families with headings 3", dear.bytes(), &cases)
 }
 
 // A free taxon that adds nothing is chosen where every heading above it is free, and nowhere else.
-pub fn free_of_no_length(out: &mut Output) {
+pub fn free_of_no_length(rt: &(impl Print + AllocGlobal)) -> io::Result<()> {
     let free = free_pair(0, 0, 0);
-    rooted(out, b"free taxa of length 0", &free, 6, 1, b"both");
-    unrooted(out, b"free taxa of length 0", &free, 6, 1, b"both");
+    let cases = [(Rooted, 1, "both"), (Unrooted, 1, "both")];
+    chosen(rt, "free taxa of length 0", free.bytes(), &cases)?;
     let group = free_pair(0, 0, 1);
-    rooted(out, b"the same, group heading 1", &group, 6, 1, b"plate 1");
-    unrooted(out, b"the same, group heading 1", &group, 6, 1, b"plate 1");
+    let cases = [(Rooted, 1, "plate 1"), (Unrooted, 1, "plate 1")];
+    chosen(rt, "the same, group heading 1", group.bytes(), &cases)?;
     let root = free_pair(0, 1, 0);
-    rooted(out, b"the same, root heading 1", &root, 6, 1, b"nothing");
-    unrooted(out, b"the same, root heading 1", &root, 6, 1, b"nothing");
+    let cases = [(Rooted, 1, "nothing"), (Unrooted, 1, "nothing")];
+    chosen(rt, "the same, root heading 1", root.bytes(), &cases)
 }
 
 // One that adds something is chosen where its headings fit.
-pub fn free_of_length_3(out: &mut Output) {
+pub fn free_of_length_3(rt: &(impl Print + AllocGlobal)) -> io::Result<()> {
+    let cases = [
+        (Rooted, 0, "plate 1"),
+        (Unrooted, 0, "plate 1"),
+        (Rooted, 1, "both"),
+        (Unrooted, 1, "both"),
+    ];
     let pair = free_pair(3, 0, 1);
-    rooted(
-        out,
-        b"free taxa of length 3, heading 1",
-        &pair,
-        6,
-        0,
-        b"plate 1",
-    );
-    unrooted(
-        out,
-        b"free taxa of length 3, heading 1",
-        &pair,
-        6,
-        0,
-        b"plate 1",
-    );
-    rooted(
-        out,
-        b"free taxa of length 3, heading 1",
-        &pair,
-        6,
-        1,
-        b"both",
-    );
-    unrooted(
-        out,
-        b"free taxa of length 3, heading 1",
-        &pair,
-        6,
-        1,
-        b"both",
-    );
+    chosen(rt, "free taxa of length 3, heading 1", pair.bytes(), &cases)
 }
 
 // The highest heading is above any count.
-pub fn prices(out: &mut Output) {
+pub fn prices(rt: &(impl Print + AllocGlobal)) -> io::Result<()> {
+    let cases = [(Rooted, 8, "plate 13"), (Unrooted, 8, "nothing")];
     let group = tree_a_with_headings(0, 65535);
-    rooted(
-        out,
-        b"tree A, group heading 65,535",
-        &group,
-        5,
-        8,
-        b"plate 13",
-    );
-    unrooted(
-        out,
-        b"tree A, group heading 65,535",
-        &group,
-        5,
-        8,
-        b"nothing",
-    );
+    chosen(rt, "tree A, group heading 65,535", group.bytes(), &cases)?;
+    let cases = [(Rooted, 8, "nothing")];
     let root = tree_a_with_headings(65535, 0);
-    rooted(out, b"tree A, root heading 65,535", &root, 5, 8, b"nothing");
+    chosen(rt, "tree A, root heading 65,535", root.bytes(), &cases)?;
     let high_group = tree_a_with_headings(0, 65536);
-    case(out, b"tree A, group heading 65,536", &high_group, 5, 8, 0);
+    case(rt, "tree A, group heading 65,536", high_group.bytes(), 8, 0)?;
     let high_root = tree_a_with_headings(65536, 0);
-    case(out, b"tree A, root heading 65,536", &high_root, 5, 8, 1);
+    case(rt, "tree A, root heading 65,536", high_root.bytes(), 8, 1)
 }
 
 // 63 groups one within the other, a free taxon in each and two in the last. What the second has costs the first heading too.
-pub fn records(out: &mut Output) {
-    let dear = headed(&comb(127, 1, 0), 127, 65535);
-    rooted(
-        out,
-        b"127 records, headings 65,535",
-        &dear,
-        127,
-        2,
-        b"nothing",
-    );
-    unrooted(
-        out,
-        b"127 records, headings 65,535",
-        &dear,
-        127,
-        2,
-        b"nothing",
-    );
-    let cheap = headed(&comb(127, 1, 0), 127, 1);
-    rooted(out, b"127 records, headings 1", &cheap, 127, 2, b"two");
-    unrooted(out, b"127 records, headings 1", &cheap, 127, 2, b"two");
+pub fn records(rt: &(impl Print + AllocGlobal)) -> io::Result<()> {
+    let dear = comb(127, 1, 0).headed(65535);
+    let cases = [(Rooted, 2, "nothing"), (Unrooted, 2, "nothing")];
+    chosen(rt, "127 records, headings 65,535", dear.bytes(), &cases)?;
+    let cheap = comb(127, 1, 0).headed(1);
+    let cases = [(Rooted, 2, "two"), (Unrooted, 2, "two")];
+    chosen(rt, "127 records, headings 1", cheap.bytes(), &cases)
 }
 
 // One taxon at 1 under the root, with just the buffers that it takes at count 4,096.
-fn one_taxon(out: &mut Output, label: &[u8], heading: u32) {
-    let buffers = BufferSizes {
+pub fn counts(rt: &(impl Print + AllocGlobal)) -> io::Result<()> {
+    let sizes = Sizes {
         marks: 2,
         curve: 8194,
         work: 65552,
     };
-    let mut one = one_record([0, 2, 0, heading, 0]);
-    put(&mut one, 2, [0, 0, 5, 1, 7]);
-    case_with_buffers(out, label, &one, 2, 4096, 0, buffers);
-}
-
-pub fn counts(out: &mut Output) {
-    one_taxon(out, b"heading 4,095, price 1, count 4,096: the taxon", 4095);
-    one_taxon(out, b"heading 4,096, price 1, count 4,096: nothing", 4096);
+    for (label, heading) in [
+        ("heading 4,095, price 1, count 4,096: the taxon", 4095),
+        ("heading 4,096, price 1, count 4,096: nothing", 4096),
+    ] {
+        let one = Sample::new(&[[0, 2, 0, heading, 0], [0, 0, 5, 1, 7]]);
+        case_with(rt, label, one.bytes(), 4096, 0, sizes)?;
+    }
+    Ok(())
 }

@@ -5,36 +5,31 @@
 // was.
 #![tactic(auto)]
 
-mod buffers;
-mod compare;
-mod exhaustive;
-mod fields;
 mod made;
 mod random;
 mod sets;
-mod tally;
+mod trial;
 
-use samples::words::{Output, say, say_number};
+use std::io;
+use trial::Trial;
 
-fn main(rt: HostRuntime) -> std::io::Result<()> {
-    let mut out = Output::new();
-    let tally = made::tied(&mut out)
-        .plus(made::shaped(&mut out))
-        .plus(made::interleaved(&mut out))
-        .plus(made::headings(&mut out))
-        .plus(made::locks(&mut out))
-        .plus(random::outlines(&mut out));
-    say_number(&mut out, tally.outlines as u64);
-    say(&mut out, b" outlines, ");
-    say_number(&mut out, tally.headed as u64);
-    say(&mut out, b" with headings, ");
-    say_number(&mut out, tally.locked as u64);
-    say(&mut out, b" with locks\n");
-    say_number(&mut out, tally.refused as u64);
-    say(&mut out, b" calls refused, ");
-    say_number(&mut out, tally.compared as u64);
-    say(&mut out, b" values compared, ");
-    say_number(&mut out, tally.wrong as u64);
-    say(&mut out, b" wrong\n");
-    out.print(&rt)
+fn main(rt: HostRuntime) -> io::Result<()> {
+    let mut trial = Trial::new(&rt);
+    trial.tied()?;
+    trial.shaped()?;
+    trial.interleaved()?;
+    trial.headings()?;
+    trial.locks()?;
+    random::outlines(&rt, &mut trial)?;
+    let Trial {
+        outlines,
+        headed,
+        locked,
+        refused,
+        compared,
+        wrong,
+        ..
+    } = trial;
+    println!(rt; "{outlines} outlines, {headed} with headings, {locked} with locks")?;
+    println!(rt; "{refused} calls refused, {compared} values compared, {wrong} wrong")
 }

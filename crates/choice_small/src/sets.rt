@@ -1,94 +1,107 @@
-// Sets of taxa of a small outline, and what they are worth by the definitions of documents 01 and 02.
-use super::fields::{first, is_locked, length, next, plate, price};
-use samples::outlines::Buffer;
-use std::num::wrapping_add_u32;
+// Sets of taxa of an outline, what they are worth by the definitions of documents 01 and 02, and the best of them, found by
+// trying every set.
+ghost use Rattle.std.specs.Prelude.{◌≤◌};
 
-// A number for each of at most 11 records, at the record's number.
-pub type Row = [u32; 12];
+use outline::fields::{branch_of, first_of, is_locked, is_taxon, next_of, price_of};
+use samples::outlines::Sample;
+use samples::ways::Way;
+use std::alloc::{AllocError, Global};
+use std::cmp::Reverse;
 
-fn at(row: &Row, r: usize) -> u32 {
-    if r < 12 {
-        return row[r];
-    }
-    0
+// A set, and what it is worth. It is a number whose binary digits stand for the taxa, the highest for the first. The better
+// set is the greater here: it has more diversity, then less cost, then the first taxon on which the two differ.
+#[derive(Clone, Copy, PartialEq, Eq, PartialOrd, Ord)]
+pub struct Worth {
+    pub diversity: u32,
+    pub cost: Reverse<u32>,
+    pub set: u32,
 }
 
-// The set of a number, 1 at each of its taxa: the number's last binary digit stands for the first taxon. A plate tells that a
-// record is a taxon.
-pub fn set_of(o: &Buffer, number: u32) -> Row {
-    let mut set = [0u32; 12];
-    let mut left = number;
-    for r in 1..12 {
-        if plate(o, r) != 0 {
-            set[r] = left % 2;
-            left = left / 2;
-        }
-    }
-    set
+// An outline, the set of the taxa at or below each record, the number of sets, and the set of the locked taxa.
+#[derive(Clone, Copy)]
+pub struct Tree {
+    pub outline: Sample,
+    under: [u32; 130],
+    sets: u32,
+    pub locked: u32,
 }
 
-// How many sets there are.
-pub fn sets_of(o: &Buffer) -> u32 {
-    let mut sets = 1;
-    for r in 1..12 {
-        if plate(o, r) != 0 {
-            sets = wrapping_add_u32(sets, sets);
-        }
-    }
-    sets
-}
-
-// The set of the locked taxa, as a number.
-pub fn locked_set(o: &Buffer) -> u32 {
-    let mut set = 0;
-    let mut digit = 1;
-    for r in 1..12 {
-        if plate(o, r) != 0 {
-            if is_locked(o, r) {
-                set = wrapping_add_u32(set, digit);
+impl Tree {
+    // A link names a later record, so the later records come first.
+    pub fn new(outline: Sample) -> Self {
+        let o = outline.bytes();
+        let (mut sets, mut locked) = (1u32, 0);
+        let mut under = [0; 130];
+        // the taxa of a record and of the rest of its chain
+        let mut chains = [0; 130];
+        for r in (1..=outline.len).rev() {
+            let mut taxa = chains.get(first_of(o, r)).copied().unwrap_or(0);
+            if is_taxon(o, r) {
+                taxa = sets;
+                sets = sets.wrapping_mul(2);
             }
-            digit = wrapping_add_u32(digit, digit);
+            if is_locked(o, r) {
+                locked |= taxa;
+            }
+            under[r] = taxa;
+            chains[r] = taxa | chains.get(next_of(o, r)).copied().unwrap_or(0);
+        }
+        Self {
+            outline,
+            under,
+            sets,
+            locked,
         }
     }
-    set
-}
 
-// How many of a set's taxa are at or below each record. A link names a later record, so the later records come first.
-pub fn below(o: &Buffer, set: &Row) -> Row {
-    let mut below = [0u32; 12];
-    // the taxa of a record and of the rest of its chain
-    let mut chains = [0u32; 12];
-    for r in (1..12).rev() {
-        below[r] = wrapping_add_u32(set[r], at(&chains, first(o, r)));
-        chains[r] = wrapping_add_u32(below[r], at(&chains, next(o, r)));
+    // Whether a set has taxon r.
+    pub fn has(&self, set: u32, r: usize) -> bool
+        requires { (1 ≤ r) × (r ≤ self.now.outline.len) }
+    {
+        is_taxon(self.outline.bytes(), r) && set & self.under[r] != 0
     }
-    below
-}
 
-// Whether the length of a record counts, by the number of chosen taxa at or below it and the number of all.
-fn counts(below: u32, all: u32, way: u32) -> bool {
-    (0 < below) & ((way == 0) | (below < all))
-}
-
-pub fn diversity(o: &Buffer, set: &Row, way: u32) -> u32 {
-    let below = below(o, set);
-    let mut sum = 0;
-    for r in 1..12 {
-        if counts(below[r], below[1], way) {
-            sum = wrapping_add_u32(sum, length(o, r));
+    // What a set is worth: the prices of its taxa and of the groups above them, and the lengths above them, unrooted those
+    // with a taxon of the set elsewhere too.
+    fn worth(&self, way: Way, set: u32) -> Worth {
+        let o = self.outline.bytes();
+        let (mut diversity, mut cost) = (0u32, 0u32);
+        for r in 1..=self.outline.len {
+            if set & self.under[r] != 0 {
+                cost = cost.wrapping_add(price_of(o, r));
+                if way == Way::Rooted || set & !self.under[r] != 0 {
+                    diversity = diversity.wrapping_add(branch_of(o, r));
+                }
+            }
+        }
+        Worth {
+            diversity,
+            cost: Reverse(cost),
+            set,
         }
     }
-    sum
+
+    // The cost of all taxa.
+    pub fn dearest(&self) -> u32 {
+        self.worth(Way::Rooted, self.sets.wrapping_sub(1)).cost.0
+    }
+
+    // The best of all sets for each count up to one, of those that hold every locked taxon.
+    pub fn bests(
+        &self,
+        alloc: Global,
+        way: Way,
+        most: u32,
+    ) -> Result<Vec<Option<Worth>>, AllocError> {
+        let sets: Vec<Worth> = (0..self.sets)
+            .filter(|set| set & self.locked == self.locked)
+            .map(|set| self.worth(way, set))
+            .collect(alloc)?;
+        (0..=most).map(|count| best(&sets, count)).collect(alloc)
+    }
 }
 
-// The prices of the set's taxa, and of each group that has one of them below it.
-pub fn cost(o: &Buffer, set: &Row) -> u32 {
-    let below = below(o, set);
-    let mut sum = 0;
-    for r in 1..12 {
-        if 0 < below[r] {
-            sum = wrapping_add_u32(sum, price(o, r));
-        }
-    }
-    sum
+// The best of these for a count.
+fn best(sets: &[Worth], count: u32) -> Option<Worth> {
+    sets.iter().copied().filter(|x| x.cost.0 <= count).max()
 }

@@ -1,181 +1,148 @@
 // Limits, and one more.
-use super::show::{case, long_case, read_first, seven};
-use super::texts::{blanks, fill, nested, star, star_pairs};
-use samples::words::Output;
+ghost use Rattle.std.specs.Prelude.{◌≤◌};
+
+use super::show::{SEVEN, case, cases, read_long};
+use super::texts::{nested, repeated, star, star_pairs};
+use std::io;
+
+// Reading these pieces, each so many times, which have plate 7 alone, to a buffer with room for 129 records.
+fn long(rt: &(impl Print + AllocGlobal), label: &str, pieces: &[(&str, usize)]) -> io::Result<()> {
+    let text = repeated(rt.alloc(), pieces)?;
+    read_long(rt, label, text.as_str(), &SEVEN, 2064)
+}
 
 // A text has at most 16,384 bytes.
-fn bytes(out: &mut Output) {
-    let mut text = blanks();
-    text[0] = b'7';
-    text[1] = b';';
-    long_case(out, b"16,384 bytes, blanks after", &text, 16384);
-    long_case(out, b"16,385 bytes, blanks after", &text, 16385);
-    text[1] = b' ';
-    text[16383] = b';';
-    long_case(out, b"16,384 bytes, blanks within", &text, 16384);
-    long_case(out, b"16,385 bytes, blanks within", &text, 16385);
+fn bytes(rt: &(impl Print + AllocGlobal)) -> io::Result<()> {
+    let most = [("7;", 1), (" ", 16382)];
+    long(rt, "16,384 bytes, blanks after", &most)?;
+    let more = [("7;", 1), (" ", 16383)];
+    long(rt, "16,385 bytes, blanks after", &more)?;
+    let most = [("7", 1), (" ", 16382), (";", 1)];
+    long(rt, "16,384 bytes, blanks within", &most)?;
+    let more = [("7", 1), (" ", 16382), ("; ", 1)];
+    long(rt, "16,385 bytes, blanks within", &more)
+}
+
+// Reading plate 7 in groups of one member, with this end.
+fn deep(rt: &(impl Print + AllocGlobal), label: &str, records: usize, end: &str) -> io::Result<()>
+    requires { 1 ≤ records }
+{
+    let text = nested(rt.alloc(), records, end)?;
+    read_long(rt, label, text.as_str(), &SEVEN, 2064)
 }
 
 // The deepest texts. Past 127 records a text still has to be in the grammar.
-fn deepest(out: &mut Output) {
-    let text = nested(8192);
-    long_case(out, b"8,192 records", &text, 16384);
-    long_case(out, b"8,192 records, 16,385 bytes", &text, 16385);
-    long_case(out, b"8,192 records, no semicolon", &text, 16383);
+fn deepest(rt: &(impl Print + AllocGlobal)) -> io::Result<()> {
+    deep(rt, "8,192 records", 8192, ";")?;
+    deep(rt, "8,192 records, 16,385 bytes", 8192, "; ")?;
+    deep(rt, "8,192 records, no semicolon", 8192, "")
 }
 
-fn bad_deepest(out: &mut Output) {
-    let mut text = nested(8192);
-    text[16382] = b' ';
-    long_case(out, b"8,192 records, a bracket open", &text, 16384);
-    fill(&mut text, 0, 16385, b'(');
-    long_case(out, b"16,384 opening brackets", &text, 16384);
-    fill(&mut text, 0, 16385, b'7');
-    long_case(out, b"16,384 digits", &text, 16384);
+fn bad_deepest(rt: &(impl Print + AllocGlobal)) -> io::Result<()> {
+    let open = [("(", 8191), ("7", 1), (")", 8190), (" ;", 1)];
+    long(rt, "8,192 records, a bracket open", &open)?;
+    long(rt, "16,384 opening brackets", &[("(", 16384)])?;
+    long(rt, "16,384 digits", &[("7", 16384)])
 }
 
 // At most 127 records. A bad text gives 10, whatever their number.
-fn records(out: &mut Output) {
-    let most = nested(127);
-    long_case(out, b"127 records", &most, 254);
-    long_case(out, b"127 records, no semicolon", &most, 253);
-    let more = nested(128);
-    long_case(out, b"128 records", &more, 256);
-    long_case(out, b"128 records, no semicolon", &more, 255);
+fn records(rt: &(impl Print + AllocGlobal)) -> io::Result<()> {
+    deep(rt, "127 records", 127, ";")?;
+    deep(rt, "127 records, no semicolon", 127, "")?;
+    deep(rt, "128 records", 128, ";")?;
+    deep(rt, "128 records, no semicolon", 128, "")
 }
 
 // Signs after so many records.
-fn late_signs(out: &mut Output) {
-    let mut more = nested(128);
-    more[256] = b';';
-    long_case(out, b"128 records, two semicolons", &more, 257);
-    more[255] = b'8';
-    long_case(out, b"128 records, a label at the end", &more, 257);
-    more[255] = b')';
-    long_case(out, b"128 records, a bracket too many", &more, 257);
-    more[255] = b';';
-    more[127] = b' ';
-    long_case(out, b"127 groups without a taxon", &more, 256);
+fn late_signs(rt: &(impl Print + AllocGlobal)) -> io::Result<()> {
+    deep(rt, "128 records, two semicolons", 128, ";;")?;
+    deep(rt, "128 records, a label at the end", 128, "8;")?;
+    deep(rt, "128 records, a bracket too many", 128, ");")?;
+    let empty = [("(", 127), (" ", 1), (")", 127), (";", 1)];
+    long(rt, "127 groups without a taxon", &empty)
 }
 
-fn late_lengths(out: &mut Output) {
-    let mut more = nested(128);
-    more[255] = b':';
-    more[256] = b'5';
-    more[257] = b';';
-    long_case(out, b"128 records, the last length", &more, 258);
-    more[256] = b' ';
-    long_case(out, b"128 records, a colon alone", &more, 258);
-    more[256] = b':';
-    long_case(out, b"128 records, two colons", &more, 258);
-    more[255] = b',';
-    more[256] = b'7';
-    long_case(out, b"128 records, a comma at the top", &more, 258);
+fn late_lengths(rt: &(impl Print + AllocGlobal)) -> io::Result<()> {
+    deep(rt, "128 records, the last length", 128, ":5;")?;
+    deep(rt, "128 records, a colon alone", 128, ": ;")?;
+    deep(rt, "128 records, two colons", 128, "::;")?;
+    deep(rt, "128 records, a comma at the top", 128, ",7;")
+}
+
+// A star of plates 101 to the last, and this end, with pairs up to this plate.
+fn starred(
+    rt: &(impl Print + AllocGlobal),
+    label: &str,
+    last: u32,
+    end: &str,
+    paired: u32,
+) -> io::Result<()> {
+    let text = star(rt.alloc(), last, end)?;
+    let pairs = star_pairs(rt.alloc(), paired)?;
+    read_long(rt, label, text.as_str(), &pairs, 2064)
 }
 
 // A star of n taxa has n + 1 records.
-fn taxa(out: &mut Output) {
-    let pairs = star_pairs();
-    let most = star(64);
-    read_first(out, b"64 taxa", &most, 258, &pairs, 128, 2064);
-    let more = star(65);
-    read_first(out, b"65 taxa", &more, 262, &pairs, 130, 2064);
+fn stars(rt: &(impl Print + AllocGlobal)) -> io::Result<()> {
+    starred(rt, "64 taxa", 163, "164);", 164)?;
+    starred(rt, "65 taxa", 164, "165);", 165)?;
+    starred(rt, "127 records in a star", 225, "226);", 226)?;
+    starred(rt, "128 records in a star", 226, "227);", 227)?;
+    starred(rt, "128 in a star, no semicolon", 226, "227)", 227)?;
+    starred(rt, "128 in a star, no bracket", 226, "227", 227)?;
+    starred(rt, "127 in a star and a comma", 226, "   );", 226)
 }
 
-fn star_records(out: &mut Output) {
-    let pairs = star_pairs();
-    let most = star(126);
-    read_first(out, b"127 records in a star", &most, 506, &pairs, 252, 2064);
-    let more = star(127);
-    read_first(out, b"128 records in a star", &more, 510, &pairs, 254, 2064);
-}
-
-fn bad_star_records(out: &mut Output) {
-    let pairs = star_pairs();
-    let mut more = star(127);
-    read_first(
-        out,
-        b"128 in a star, no semicolon",
-        &more,
-        509,
-        &pairs,
-        254,
-        2064,
-    );
-    read_first(
-        out,
-        b"128 in a star, no bracket",
-        &more,
-        508,
-        &pairs,
-        254,
-        2064,
-    );
-    fill(&mut more, 505, 508, b' ');
-    read_first(
-        out,
-        b"127 in a star and a comma",
-        &more,
-        510,
-        &pairs,
-        252,
-        2064,
-    );
-}
-
-fn late_numbers(out: &mut Output) {
-    let mut more = star(127);
-    fill(&mut more, 508, 514, b'0');
-    more[514] = b')';
-    more[515] = b';';
-    long_case(out, b"128 in a star, 9 digits in the last", &more, 516);
-    more[507] = b' ';
-    long_case(out, b"128 in a star, a blank in the last", &more, 516);
-    fill(&mut more, 507, 515, b'0');
-    more[515] = b')';
-    more[516] = b';';
-    long_case(out, b"128 in a star, 10 digits in the last", &more, 517);
+// A star of 128 records, with plate 7's pair alone. The digits are those of its last taxon.
+fn late_numbers(rt: &(impl Print + AllocGlobal)) -> io::Result<()> {
+    for (label, end) in [
+        ("128 in a star, 9 digits in the last", "227000000);"),
+        ("128 in a star, a blank in the last", "22 000000);"),
+        ("128 in a star, 10 digits in the last", "2200000000);"),
+    ] {
+        let text = star(rt.alloc(), 226, end)?;
+        read_long(rt, label, text.as_str(), &SEVEN, 2064)?;
+    }
+    Ok(())
 }
 
 // A length is at most 1,000,000.
-fn lengths(out: &mut Output) {
-    seven(out, b"7:1000000;");
-    seven(out, b"7:1000001;");
-    seven(out, b"(7):1000000;");
-    seven(out, b"(7):1000001;");
+fn lengths(rt: &impl Print) -> io::Result<()> {
+    let texts = ["7:1000000;", "7:1000001;", "(7):1000000;", "(7):1000001;"];
+    cases(rt, &SEVEN, &texts)
 }
 
 // The place is the lowest record, in the order of the text.
-fn places(out: &mut Output) {
-    let pairs = [7, 1, 8, 2, 9, 3];
-    case(out, b"((7,8):1000001,9);", &pairs);
-    case(out, b"((7,8:1000001),9);", &pairs);
-    case(out, b"((7,8),9:1000001);", &pairs);
-    case(out, b"((7:1000001,8),9:1000001);", &pairs);
+fn places(rt: &impl Print) -> io::Result<()> {
+    let texts = [
+        "((7,8):1000001,9);",
+        "((7,8:1000001),9);",
+        "((7,8),9:1000001);",
+        "((7:1000001,8),9:1000001);",
+    ];
+    cases(rt, &[7, 1, 8, 2, 9, 3], &texts)
 }
 
 // A price is at most 65,535.
-fn prices(out: &mut Output) {
-    case(out, b"7;", &[7, 65535]);
-    case(out, b"7;", &[7, 65536]);
-    case(out, b"7;", &[7, 4294967295]);
-    case(out, b"((7,8),9);", &[7, 65536, 8, 2, 9, 3]);
-    case(out, b"((7,8),9);", &[9, 65536, 8, 2, 7, 1]);
-    case(out, b"((7,8),9);", &[9, 65536, 7, 1, 8, 65536]);
+fn prices(rt: &impl Print) -> io::Result<()> {
+    case(rt, "7;", &[7, 65535])?;
+    case(rt, "7;", &[7, 65536])?;
+    case(rt, "7;", &[7, 4294967295])?;
+    case(rt, "((7,8),9);", &[7, 65536, 8, 2, 9, 3])?;
+    case(rt, "((7,8),9);", &[9, 65536, 8, 2, 7, 1])?;
+    case(rt, "((7,8),9);", &[9, 65536, 7, 1, 8, 65536])
 }
 
-pub fn all(out: &mut Output) {
-    bytes(out);
-    deepest(out);
-    bad_deepest(out);
-    records(out);
-    late_signs(out);
-    late_lengths(out);
-    taxa(out);
-    star_records(out);
-    bad_star_records(out);
-    late_numbers(out);
-    lengths(out);
-    places(out);
-    prices(out);
+pub fn all(rt: &(impl Print + AllocGlobal)) -> io::Result<()> {
+    bytes(rt)?;
+    deepest(rt)?;
+    bad_deepest(rt)?;
+    records(rt)?;
+    late_signs(rt)?;
+    late_lengths(rt)?;
+    stars(rt)?;
+    late_numbers(rt)?;
+    lengths(rt)?;
+    places(rt)?;
+    prices(rt)
 }

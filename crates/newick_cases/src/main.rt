@@ -13,14 +13,12 @@ mod show;
 mod texts;
 mod trees;
 
-use samples::words::Output;
+use std::io;
 
-fn main(rt: HostRuntime) -> std::io::Result<()> {
-    let mut out = Output::new();
-    trees::all(&mut out);
-    grammar::all(&mut out);
-    limits::all(&mut out);
-    pairing::all(&mut out);
-    refused::all(&mut out);
-    out.print(&rt)
+fn main(rt: HostRuntime) -> io::Result<()> {
+    trees::all(&rt)?;
+    grammar::all(&rt)?;
+    limits::all(&rt)?;
+    pairing::all(&rt)?;
+    refused::all(&rt)
 }

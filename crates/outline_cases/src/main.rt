@@ -7,23 +7,21 @@ mod checks;
 mod finds;
 mod show;
 
-use samples::words::Output;
+use std::io;
 
-fn main(rt: HostRuntime) -> std::io::Result<()> {
-    let mut out = Output::new();
-    checks::sizes(&mut out);
-    checks::fields(&mut out);
-    checks::locks(&mut out);
-    checks::links_to_later(&mut out);
-    checks::links_in_range(&mut out);
-    checks::naming(&mut out);
-    checks::single_members(&mut out);
-    checks::places(&mut out);
-    checks::order(&mut out);
-    checks::plates_alike(&mut out);
-    checks::interleaved(&mut out);
-    finds::in_accepted(&mut out);
-    finds::locks(&mut out);
-    finds::in_refused(&mut out);
-    out.print(&rt)
+fn main(rt: HostRuntime) -> io::Result<()> {
+    checks::sizes(&rt)?;
+    checks::fields(&rt)?;
+    checks::locks(&rt)?;
+    checks::links_to_later(&rt)?;
+    checks::links_in_range(&rt)?;
+    checks::naming(&rt)?;
+    checks::single_members(&rt)?;
+    checks::places(&rt)?;
+    checks::order(&rt)?;
+    checks::plates_alike(&rt)?;
+    checks::interleaved(&rt)?;
+    finds::in_accepted(&rt)?;
+    finds::locks(&rt)?;
+    finds::in_refused(&rt)
 }

@@ -1,71 +1,38 @@
 // The line that is printed for a case.
 ghost use Rattle.std.specs.Prelude.{◌≤◌};
 
-use outline::fields::{branch_of, first_of, is_locked, next_of, plate_of, price_of};
-use refusals::Refusal;
-use samples::outlines::{Buffer, first_bytes, tree_a_with};
-use samples::words::{Output, say, say_number, say_pair, say_refusal};
+use outline::fields::is_locked;
+use samples::outlines::tree_a;
+use samples::words::{Fields, Refused};
+use std::io;
 
-// The number and the place that the check gives, `0 0` if it accepts.
-fn say_verdict(out: &mut Output, verdict: Result<(), Refusal>) {
-    match verdict {
-        Ok(()) => say_pair(out, 0, 0),
-        Err(refusal) => say_refusal(out, refusal),
+// What the check gives for an outline: the number and the place of its refusal, `0 0` if it accepts.
+pub fn check(rt: &impl Print, label: &str, o: &[u8]) -> io::Result<()> {
+    match outline::check(o) {
+        Ok(()) => println!(rt; "{label}: 0 0"),
+        Err(refusal) => println!(rt; "{label}: {}", Refused(refusal)),
     }
-}
-
-// The fields of a part that is one record, read from the part itself.
-fn say_part(out: &mut Output, part: &[u8]) {
-    if part.len() == 0 {
-        say(out, b"empty");
-        return;
-    }
-    if part.len() != 16 {
-        say(out, b"not one record");
-        return;
-    }
-    say_pair(out, next_of(part, 1) as u64, first_of(part, 1));
-    say(out, b" ");
-    say_pair(out, branch_of(part, 1) as u64, price_of(part, 1) as usize);
-    say(out, b" ");
-    say_number(out, plate_of(part, 1) as u64);
-    if is_locked(part, 1) {
-        say(out, b" locked");
-    }
-}
-
-// The check of the first bytes.
-pub fn check_bytes(out: &mut Output, label: &[u8], buffer: &Buffer, bytes: usize)
-    requires { bytes ≤ 2064 }
-{
-    say(out, label);
-    say(out, b": ");
-    say_verdict(out, outline::check(first_bytes(buffer, bytes)));
-    say(out, b"\n");
-}
-
-// The check of the first n records.
-pub fn check(out: &mut Output, label: &[u8], buffer: &Buffer, n: usize)
-    requires { n ≤ 129 }
-{
-    check_bytes(out, label, buffer, 16 * n);
 }
 
 // The check of tree A with another record r.
-pub fn changed(out: &mut Output, label: &[u8], r: usize, fields: [u32; 5])
+pub fn changed(rt: &impl Print, label: &str, r: usize, fields: [u32; 5]) -> io::Result<()>
     requires { (1 ≤ r) × (r ≤ 5) }
 {
-    check(out, label, &tree_a_with(r, fields), 5);
+    check(rt, label, tree_a().with(r, fields).bytes())
 }
 
-// The record of a plate in the first bytes. The label, if any, says what is special about the outline.
-pub fn find(out: &mut Output, label: &[u8], buffer: &Buffer, bytes: usize, plate: u32)
-    requires { bytes ≤ 2064 }
-{
-    say(out, b"find ");
-    say_number(out, plate as u64);
-    say(out, label);
-    say(out, b": ");
-    say_part(out, outline::find(first_bytes(buffer, bytes), plate));
-    say(out, b"\n");
+// The record of a plate in an outline, read from the record itself. The label, if any, says what is special about the outline.
+pub fn find(rt: &impl Print, label: &str, o: &[u8], plate: u32) -> io::Result<()> {
+    let found = outline::find(o, plate);
+    if found.len() == 0 {
+        return println!(rt; "find {plate}{label}: empty");
+    }
+    if found.len() != 16 {
+        return println!(rt; "find {plate}{label}: not one record");
+    }
+    let locked = if is_locked(found, 1) { " locked" } else { "" };
+    println!(rt;
+        "find {plate}{label}: {}{locked}",
+        Fields { o: found, r: 1 }
+    )
 }

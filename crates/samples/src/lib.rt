@@ -1,7 +1,9 @@
-// What the test programs share: outlines, and the words that they print.
+// What the test programs share: outlines, and what they print of an answer.
 #![tactic(auto)]
 
+pub mod buffers;
 pub mod headings;
 pub mod locks;
 pub mod outlines;
+pub mod ways;
 pub mod words;

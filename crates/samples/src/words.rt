@@ -1,59 +1,67 @@
-// What a test program prints: words and numbers, kept until it ends.
-use io::decimal;
+// What the test programs print of answers, records and buffers.
+ghost use Rattle.outline.specs.Outline.{IsRecord};
+
+use outline::fields::{branch_of, first_of, next_of, plate_of, price_of};
 use refusals::Refusal;
-use std::io::Write;
-
-// The bytes to print. Those past its room are lost.
-#[derive(Drop)]
-pub struct Output {
-    bytes: [u8; 32768],
-    len: usize,
-}
-
-impl Output {
-    pub fn new() -> Self {
-        Self {
-            bytes: [0; 32768],
-            len: 0,
-        }
-    }
-
-    // Takes one byte more.
-    fn push(&mut self, byte: u8) {
-        let at = self.len;
-        if at < self.bytes.len() {
-            self.bytes[at] = byte;
-            self.len = at + 1;
-        }
-    }
-
-    // Prints all of them.
-    pub fn print(&self, rt: &impl Print) -> std::io::Result<()> {
-        let len = self.len.min(self.bytes.len());
-        std::io::writer(rt).write_all(&self.bytes[..len])
-    }
-}
-
-pub fn say(out: &mut Output, text: &[u8]) {
-    for byte in text {
-        out.push(*byte);
-    }
-}
-
-pub fn say_number(out: &mut Output, n: u64) {
-    let mut digits = [0; 20];
-    let len = decimal(n, &mut digits);
-    say(out, &digits[..len]);
-}
-
-// Two numbers with a blank between.
-pub fn say_pair(out: &mut Output, a: u64, b: usize) {
-    say_number(out, a);
-    say(out, b" ");
-    say_number(out, b as u64);
-}
+use std::fmt;
 
 // The number and the place that the table of refusals gives.
-pub fn say_refusal(out: &mut Output, refusal: Refusal) {
-    say_pair(out, refusal.number() as u64, refusal.place());
+#[derive(Clone, Copy)]
+pub struct Refused(pub Refusal);
+
+impl fmt::Display for Refused {
+    fn fmt<W: fmt::Write>(&self, f: &mut fmt::Formatter<W>) -> fmt::Result {
+        write!(f, "{} {}", self.0.number(), self.0.place())
+    }
+}
+
+// The fields of record r, without the lock.
+#[derive(Clone, Copy)]
+pub struct Fields<'a> {
+    pub o: &'a [u8],
+    pub r: usize,
+    ghost inside: { IsRecord o.now r },
+}
+
+impl fmt::Display for Fields<'_> {
+    fn fmt<W: fmt::Write>(&self, f: &mut fmt::Formatter<W>) -> fmt::Result {
+        let (o, r) = (self.o, self.r);
+        write!(f, "{} {} ", next_of(o, r), first_of(o, r))?;
+        write!(
+            f,
+            "{} {} {}",
+            branch_of(o, r),
+            price_of(o, r),
+            plate_of(o, r)
+        )
+    }
+}
+
+// Numbers, with a blank before each.
+#[derive(Drop)]
+pub struct Listed<'a, T>(pub &'a [T]);
+
+impl<T: fmt::Display> fmt::Display for Listed<'_, T> {
+    fn fmt<W: fmt::Write>(&self, f: &mut fmt::Formatter<W>) -> fmt::Result {
+        for x in self.0 {
+            write!(f, " {x}")?;
+        }
+        Ok(())
+    }
+}
+
+// A text, with the number of each byte that is no sign of print.
+#[derive(Clone, Copy)]
+pub struct Signs<'a>(pub &'a [u8]);
+
+impl fmt::Display for Signs<'_> {
+    fn fmt<W: fmt::Write>(&self, f: &mut fmt::Formatter<W>) -> fmt::Result {
+        for byte in self.0 {
+            match byte {
+                b' '..=b'~' => write!(f, "{}", *byte as char)?,
+                _ => write!(f, "<{byte}>")?,
+            }
+        }
+        Ok(())
+    }
 }

@@ -11,13 +11,11 @@ mod refused;
 mod sets;
 mod show;
 
-use samples::words::Output;
+use std::io;
 
-fn main(rt: HostRuntime) -> std::io::Result<()> {
-    let mut out = Output::new();
-    sets::all(&mut out);
-    chosen::all(&mut out);
-    refused::marks(&mut out);
-    refused::outlines(&mut out);
-    out.print(&rt)
+fn main(rt: HostRuntime) -> io::Result<()> {
+    sets::all(&rt)?;
+    chosen::all(&rt)?;
+    refused::marks(&rt)?;
+    refused::outlines(&rt)
 }

@@ -11,12 +11,10 @@ mod room;
 mod show;
 mod trees;
 
-use samples::words::Output;
+use std::io;
 
-fn main(rt: HostRuntime) -> std::io::Result<()> {
-    let mut out = Output::new();
-    trees::all(&mut out);
-    refused::all(&mut out);
-    room::all(&mut out);
-    out.print(&rt)
+fn main(rt: HostRuntime) -> io::Result<()> {
+    trees::all(&rt)?;
+    refused::all(&rt)?;
+    room::all(&rt)
 }

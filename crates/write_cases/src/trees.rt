@@ -1,97 +1,91 @@
 // Outlines that are written.
 use super::show::{case, write_to};
 use samples::headings::{deep_pair, free_pair, two_families};
-use samples::outlines::{Buffer, one_record, pairs, put, star, tree_a};
-use samples::words::Output;
+use samples::outlines::{Sample, one_record, pairs, star, tree_a};
+use std::io;
 
 // Tree A of document 01, with record 3 for the taxon that the text has last.
-pub fn level_by_level() -> Buffer {
-    let mut buffer = tree_a();
-    put(&mut buffer, 2, [3, 4, 3, 0, 0]);
-    put(&mut buffer, 3, [0, 0, 5, 2, 13]);
-    put(&mut buffer, 4, [5, 0, 4, 3, 11]);
-    put(&mut buffer, 5, [0, 0, 2, 1, 12]);
-    buffer
+pub fn level_by_level() -> Sample {
+    Sample::new(&[
+        [0, 2, 0, 0, 0],
+        [3, 4, 3, 0, 0],
+        [0, 0, 5, 2, 13],
+        [5, 0, 4, 3, 11],
+        [0, 0, 2, 1, 12],
+    ])
 }
 
 // With record 4 for it, between the records of the group's two members.
-fn interleaved() -> Buffer {
-    let mut buffer = tree_a();
-    put(&mut buffer, 2, [4, 3, 3, 0, 0]);
-    put(&mut buffer, 3, [5, 0, 4, 3, 11]);
-    put(&mut buffer, 4, [0, 0, 5, 2, 13]);
-    put(&mut buffer, 5, [0, 0, 2, 1, 12]);
-    buffer
+fn interleaved() -> Sample {
+    Sample::new(&[
+        [0, 2, 0, 0, 0],
+        [4, 3, 3, 0, 0],
+        [5, 0, 4, 3, 11],
+        [0, 0, 5, 2, 13],
+        [0, 0, 2, 1, 12],
+    ])
 }
 
 // Members in chain order and pairs in text order, however the records are numbered.
-fn orders(out: &mut Output) {
-    case(out, b"tree A", &tree_a(), 5);
-    case(out, b"tree A, level by level", &level_by_level(), 5);
-    case(out, b"tree A, interleaved", &interleaved(), 5);
+fn orders(rt: &(impl Print + AllocGlobal)) -> io::Result<()> {
+    case(rt, "tree A", tree_a().bytes())?;
+    case(rt, "tree A, level by level", level_by_level().bytes())?;
+    case(rt, "tree A, interleaved", interleaved().bytes())
 }
 
-fn one_taxon(out: &mut Output, length: u32, price: u32, plate: u32) {
-    case(
-        out,
-        b"one taxon",
-        &one_record([0, 0, length, price, plate]),
-        1,
-    );
-}
-
-fn single_taxa(out: &mut Output) {
-    one_taxon(out, 5, 1, 7);
-    one_taxon(out, 0, 0, 1);
-    one_taxon(out, 1000000, 65535, 999999999);
-}
-
-// No leading zeros, and no others left out.
-fn digits(out: &mut Output) {
-    one_taxon(out, 9, 9, 9);
-    one_taxon(out, 10, 10, 10);
-    one_taxon(out, 99, 99, 99);
-    one_taxon(out, 100, 100, 100);
-    one_taxon(out, 9999, 9999, 9999);
-    one_taxon(out, 10000, 10000, 10000);
-    one_taxon(out, 999999, 65535, 99999999);
-    one_taxon(out, 100100, 60500, 100000000);
+// Single taxa, by length, price and plate: no leading zeros, and no others left out.
+fn single_taxa(rt: &(impl Print + AllocGlobal)) -> io::Result<()> {
+    for [length, price, plate] in [
+        [5, 1, 7],
+        [0, 0, 1],
+        [1000000, 65535, 999999999],
+        [9, 9, 9],
+        [10, 10, 10],
+        [99, 99, 99],
+        [100, 100, 100],
+        [9999, 9999, 9999],
+        [10000, 10000, 10000],
+        [999999, 65535, 99999999],
+        [100100, 60500, 100000000],
+    ] {
+        let one = one_record([0, 0, length, price, plate]);
+        case(rt, "one taxon", one.bytes())?;
+    }
+    Ok(())
 }
 
 // Groups one within the other, each the only member of the one before, and plate 7 in the last.
-fn two_deep() -> Buffer {
-    let mut buffer = one_record([0, 2, 0, 0, 0]);
-    put(&mut buffer, 2, [0, 3, 1000000, 0, 0]);
-    put(&mut buffer, 3, [0, 0, 0, 1, 7]);
-    buffer
+fn two_deep() -> Sample {
+    Sample::new(&[[0, 2, 0, 0, 0], [0, 3, 1000000, 0, 0], [0, 0, 0, 1, 7]])
 }
 
-fn three_deep() -> Buffer {
-    let mut buffer = one_record([0, 2, 1, 0, 0]);
-    put(&mut buffer, 2, [0, 3, 2, 0, 0]);
-    put(&mut buffer, 3, [0, 4, 3, 0, 0]);
-    put(&mut buffer, 4, [0, 0, 5, 1, 7]);
-    buffer
+fn three_deep() -> Sample {
+    Sample::new(&[
+        [0, 2, 1, 0, 0],
+        [0, 3, 2, 0, 0],
+        [0, 4, 3, 0, 0],
+        [0, 0, 5, 1, 7],
+    ])
 }
 
 // Groups with a single member.
-fn single_members(out: &mut Output) {
-    case(out, b"two groups around a taxon", &two_deep(), 3);
-    case(out, b"three groups around a taxon", &three_deep(), 4);
-    case(out, b"a group alone in the root", &deep_pair(0, 0), 4);
-    case(out, b"groups of one taxon", &two_families(0), 8);
+fn single_members(rt: &(impl Print + AllocGlobal)) -> io::Result<()> {
+    case(rt, "two groups around a taxon", two_deep().bytes())?;
+    case(rt, "three groups around a taxon", three_deep().bytes())?;
+    case(rt, "a group alone in the root", deep_pair(0, 0).bytes())?;
+    case(rt, "groups of one taxon", two_families(0).bytes())
 }
 
-fn many_members(out: &mut Output) {
-    case(out, b"zero lengths and prices", &free_pair(0, 0, 0), 6);
-    case(out, b"star", &star(12, 10, 100), 12);
-    write_to(out, b"six levels of pairs", &pairs(1, 64), 127, 600, 128);
+fn many_members(rt: &(impl Print + AllocGlobal)) -> io::Result<()> {
+    let zeros = free_pair(0, 0, 0);
+    case(rt, "zero lengths and prices", zeros.bytes())?;
+    case(rt, "star", star(12, 10, 100).bytes())?;
+    write_to(rt, "six levels of pairs", pairs(1, 64).bytes(), 600, 128)
 }
 
-pub fn all(out: &mut Output) {
-    orders(out);
-    single_taxa(out);
-    digits(out);
-    single_members(out);
-    many_members(out);
+pub fn all(rt: &(impl Print + AllocGlobal)) -> io::Result<()> {
+    orders(rt)?;
+    single_taxa(rt)?;
+    single_members(rt)?;
+    many_members(rt)
 }
