@@ -111,12 +111,14 @@ fn answer(
             print!(rt; "{}", Refused(refusal))?;
             NOTHING
         }
-        Ok(Figures {
-            diversity,
-            cost,
-            taxa,
-            spare,
-        }) => {
+        Ok(
+            Figures {
+                diversity,
+                cost,
+                taxa,
+                spare,
+            },
+        ) => {
             let written = Sizes {
                 marks: o.len() / 16,
                 curve: 2 * (count as usize + 1),

@@ -116,7 +116,12 @@ impl<'a, R: Print> Trial<'a, R> {
     }
 
     // An answer, where this set is the best, if one fits. The spare is page count minus cost.
-    fn answer(&mut self, count: u32, best: Option<Worth>, answer: Result<Figures, Refusal>) -> io::Result<()> {
+    fn answer(
+        &mut self,
+        count: u32,
+        best: Option<Worth>,
+        answer: Result<Figures, Refusal>,
+    ) -> io::Result<()> {
         match (best, answer) {
             (None, Err(refusal)) => {
                 self.value("refusal", count, 0, 12, refusal.number())?;
@@ -126,12 +131,14 @@ impl<'a, R: Print> Trial<'a, R> {
             (Some(_), Err(_)) => self.value("refused", count, 0, 0, 1),
             (
                 Some(best),
-                Ok(Figures {
-                    diversity,
-                    cost,
-                    taxa,
-                    spare,
-                }),
+                Ok(
+                    Figures {
+                        diversity,
+                        cost,
+                        taxa,
+                        spare,
+                    },
+                ),
             ) => {
                 self.value("diversity", count, 0, best.diversity, diversity)?;
                 self.value("cost", count, 0, best.cost.0, cost)?;
