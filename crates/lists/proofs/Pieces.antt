@@ -4,8 +4,8 @@ use mathlib.Core.Path.{◌≡◌, sym, ap, ◌∙◌}
 use mathlib.Core.List.{List, [], ◌∷◌, ◌++◌, append_assoc}
 use native.Mathlib.Numerals.{add-one}
 use native.Mathlib.Omega.{arith}
-use lib.ListN.{length, get_or, take, drop, set, length-append, length-drop, take-append-drop}
-use lib.Seq.{set_split, drop-cons, take_at, drop_at, take-append-le, take-take, drop-drop, length-take-le}
+use lib.ListN.{length, get_or, take, drop, length-append, length-drop, take-append-drop}
+use lib.Seq.{drop-cons, take_at, drop_at, take-append-le, take-take, drop-drop, length-take-le}
 use Rattle.lists.specs.Lists.{over, over_at}
 
 -- the two numbers at a place, and what follows them
@@ -18,11 +18,6 @@ two_at xs i h =
 -- what follows a piece that stands at a place
 pub after_list : {A : Type 0} (xs : List A) (i n : ℕ) (s rest : List A) → length s ≡ n → drop i xs ≡ s ++ rest → drop (i + n) xs ≡ rest
 after_list xs i n s rest e h = sym (drop-drop n i xs) ∙ rw h (drop_at s rest n e)
-
--- one number
-pub over_one : {A : Type 0} (at : ℕ) (b : A) (buffer : List A) → at < length buffer → set buffer at b ≡ over_at at (b ∷ []) buffer
-unfolding over over_at
-over_one at b buffer h = rw (drop-drop 1 at buffer, add-one) (set_split buffer at b h)
 
 -- nothing
 pub over_nothing : {A : Type 0} (at : ℕ) (buffer : List A) → over_at at [] buffer ≡ buffer
