@@ -1,4 +1,6 @@
 // Rows of candidates in lent memory, written column by column.
+// The memory and the width go along as two parameters. In a struct of both, tried with two of these functions, a caller knows of a
+// method with `&mut self` only what its contract says: each would say also that the width and the borrow stay as they are.
 ghost use Rattle.std.specs.Prelude.{◌≡◌, ◌+◌, ◌*◌, ◌<◌, ◌≤◌, length};
 ghost use Rattle.laws.specs.Candidate.{none, better_of};
 ghost use Rattle.cells.specs.Cells.{view, cell};
