@@ -36,7 +36,7 @@ join_row_lem v x b = go (leb v.cost b)
 
 -- a row charged in two parts: from the price on, and below it
 module _ {l m : List ℕ} {to branch price y w : ℕ} (j : Charges l to branch price y w) (len : length m ≡ length l)
-    (above : ChargingFrom to to branch price y w l m) {n : ℕ} (e : n ≡ min price w) where
+    (above : ChargingFrom to to branch price y w l m) {n : ℕ} (e : n ≡ min w price) where
   over_same : (i : ℕ) → i < w → cell m (y + i) ≡ cell l (y + i)
   over_same i h = above.same (y + i) (⊎_elim (λ p q. omega arith) (λ p q. omega arith) j.over_apart)
 

@@ -1,4 +1,5 @@
 -- Cells that are put and rows that are written, column by column.
+use denote.Ref.{Bor}
 use Prim.Native.Nat.{ℕ, ◌+◌, ◌*◌, ◌-◌, ◌<◌, ◌≤◌}
 use mathlib.Core.Path.{◌≡◌, ◌∙◌}
 use mathlib.Core.Logic.{◌⊎◌, inr, ◌≢◌, ⊎_elim}
@@ -10,8 +11,9 @@ use lib.Seq.{get_or-set_same, get_or-set_other}
 use borrow.Author.Tests.{le-leb}
 use Rattle.laws.specs.Candidate.{Cand, join_of}
 use Rattle.rows.specs.Rows.{Row}
-use Rattle.cells.specs.Cells.{seen, cell}
-use Rattle.cells.specs.Memory.{Apart, Put, RowWritten, join_from}
+use Rattle.cells.specs.declared.candidate.Candidate.{Candidate}
+use Rattle.cells.specs.Cells.{seen, view, cell}
+use Rattle.cells.specs.Memory.{Apart, Put, RowWritten, Besides, Made, join_from}
 
 -- two words put at a cell of a list
 pub put_words : (l : List ℕ) (k s m : ℕ) → 2 * k + 1 < length l → Put k (seen s m) l (set (set l (2 * k) s) (2 * k + 1) m)
@@ -30,59 +32,74 @@ put_words l k s m fits =
           simp get_or-set_other;
     }
 
--- a loop's invariant: of the columns from lo up to w, those from i up to j are written
-pub record Filling (to lo w : ℕ) (x : Row) (l m : List ℕ) (i j : ℕ) : Type 0 where
-  pub ordered : i ≤ j
-  pub inside : (i ≡ j) ⊎ ((lo ≤ i) × (j ≤ w))
-  pub long : length m ≡ length l
-  pub written : RowWritten to i j x l m
-
-module _ {to lo w : ℕ} {x : Row} {l m : List ℕ} {i j : ℕ} (h : Filling to lo w x l m i j) where
-  -- from left to right
-  pub filling_goes : {c : Cand} {m' : List ℕ} → lo ≤ i → j < w → Put (to + j) c m m' → length m' ≡ length m → c ≡ x j
-      → Filling to lo w x l m' i (j + 1)
-  filling_goes least lt p len e = record {
-    ordered = omega (arith, h.ordered);
-    inside = inr (least, omega arith);
-    long = len ∙ h.long;
-    written = record {
-      row = λ b u v.
-          ⊎_elim (λ (q : b ≡ j). rw q (p.here ∙ e)) (λ (q : b < j). p.same (to + b) (omega arith) ∙ h.written.row b u q)
-          (eq-or-lt_of_le {m = j} (omega arith));
-      same = λ k g. p.same k (λ q. omega (arith, g (omega (arith, h.ordered)))) ∙ h.written.same k (λ q. omega (arith, g q));
+-- columns that a closure made, from left to right: one more, and all of them
+module _ {post : Bor (List ℕ) → ℕ → Candidate → Type 0} {to lo : ℕ} {l m : List ℕ} where
+  pub made_goes : {b : ℕ} {n : List ℕ} → Made post to lo b l m → lo ≤ b → (rows : Bor (List ℕ)) → rows.now ≡ m → {c : Candidate} → post rows b c
+      → Put (to + b) (view c) m n → length n ≡ length m → Made post to lo (b + 1) l n
+  made_goes {b} h least rows e {c} given p len = record {
+    made = λ k u v.
+        ⊎_elim (λ (q : k ≡ b). rw q (rows, (c, rw e h.others, given, p.here)))
+        (λ (q : k < b). let w = h.made k u q in (w.0, (w.1.0, w.1.1, w.1.2, p.same (to + k) (omega arith) ∙ w.1.3)))
+        (eq-or-lt_of_le {m = b} (omega arith));
+    others = record {
+      long = len ∙ h.others.long;
+      same = λ k g. p.same k (λ q. omega (arith, g (omega arith))) ∙ h.others.same k (λ q. omega (arith, g q));
     };
   }
 
-  -- and from right to left
-  pub filling_back : {c : Cand} {m' : List ℕ} → lo < i → j ≤ w → Put (to + (i - 1)) c m m' → length m' ≡ length m → c ≡ x (i - 1)
-      → Filling to lo w x l m' (i - 1) j
-  filling_back lt most p len e = record {
-    ordered = omega (arith, h.ordered);
-    inside = inr (omega arith, most);
+  pub made_ends : {b hi : ℕ} → Made post to lo b l m → hi ≤ b → (b ≡ lo) ⊎ (b ≤ hi) → Made post to lo hi l m
+  made_ends {b} {hi} h past inside = record {
+    made = λ k u v. h.made k u (omega arith);
+    others = record {
+      long = h.others.long;
+      same = λ k g. h.others.same k (λ q. ⊎_elim (λ (e : b ≡ lo). omega arith) (λ (e : b ≤ hi). omega (arith, g q)) inside);
+    };
+  }
+
+  -- as a row, if each call gave a column of it
+  pub made_row : {hi : ℕ} (x : Row) → Made post to lo hi l m
+      → ((rows : Bor (List ℕ)) (b : ℕ) (c : Candidate) → lo ≤ b → b < hi → Besides to lo b l rows.now → post rows b c → view c ≡ x b)
+      → RowWritten to lo hi x l m
+  made_row x h f = record {
+    row = λ b u v. let w = h.made b u v in w.1.3 ∙ f w.0 b w.1.0 u v w.1.1 w.1.2;
+    same = h.others.same;
+  }
+
+-- where they are read, a row that is not overtaken and one that stands apart are still as they were
+module _ {to lo b w a : ℕ} {l m : List ℕ} (h : Besides to lo b l m) (most : b < w) where
+  pub aside_same : (to ≤ a) ⊎ (a + w ≤ to) → cell m (a + b) ≡ cell l (a + b)
+  aside_same d = h.same (a + b) (⊎_elim (λ p q. omega arith) (λ p q. omega arith) d)
+
+  pub apart_same : Apart to a w → {k : ℕ} → k < w → cell m (a + k) ≡ cell l (a + k)
+  apart_same d {k} lt = h.same (a + k) (⊎_elim (λ p q. omega arith) (λ p q. omega arith) d)
+
+-- a loop's invariant from right to left: the columns from i up to w are written, of those from lo on
+pub record Filling (to lo w : ℕ) (x : Row) (l m : List ℕ) (i : ℕ) : Type 0 where
+  pub most : i ≤ w
+  pub least : (i ≡ w) ⊎ (lo ≤ i)
+  pub long : length m ≡ length l
+  pub written : RowWritten to i w x l m
+
+module _ {to lo w : ℕ} {x : Row} {l m : List ℕ} {i : ℕ} (h : Filling to lo w x l m i) where
+  pub filling_goes : {c : Cand} {m' : List ℕ} → lo < i → Put (to + (i - 1)) c m m' → length m' ≡ length m → c ≡ x (i - 1)
+      → Filling to lo w x l m' (i - 1)
+  filling_goes lt p len e = record {
+    most = omega (arith, h.most);
+    least = inr (omega arith);
     long = len ∙ h.long;
     written = record {
       row = λ b u v.
           let u' : i - 1 ≤ b = u in
           ⊎_elim (λ (q : i - 1 ≡ b). rw q at (p.here ∙ e)) (λ (q : i - 1 < b). p.same (to + b) (omega arith) ∙ h.written.row b (omega arith) v)
           (eq-or-lt_of_le u');
-      same = λ k g. p.same k (λ q. omega (arith, g (omega arith), h.ordered)) ∙ h.written.same k (λ q. omega (arith, g (omega arith)));
+      same = λ k g. p.same k (λ q. omega (arith, g (omega arith), h.most)) ∙ h.written.same k (λ q. omega (arith, g (omega arith)));
     };
   }
 
   -- a row that is not overtaken is still as it was where it is read
-  pub aside_same : {a : ℕ} → (to ≤ a) ⊎ (a + w ≤ to) → j < w → cell m (a + j) ≡ cell l (a + j)
-  aside_same {a} d lt = h.written.same (a + j) (⊎_elim (λ p q. omega arith) (λ p q. omega arith) d)
-
   pub back_same : {a : ℕ} → (a ≤ to) ⊎ (to + w ≤ a) → (k : ℕ) → k < i → cell m (a + k) ≡ cell l (a + k)
   back_same {a} d k lt =
-      h.written.same (a + k)
-      (λ q. ⊎_elim (λ (p : a ≤ to). absurd (omega arith)) (λ (p : to + w ≤ a). ⊎_elim (λ (e : i ≡ j). omega arith) (λ (_, most). omega arith) h.inside) d)
-
-  -- a row that stands apart is still as it was
-  pub apart_same : {a : ℕ} → Apart to a w → (k : ℕ) → k < w → cell m (a + k) ≡ cell l (a + k)
-  apart_same {a} d k lt =
-      h.written.same (a + k)
-      (λ q. ⊎_elim (λ (e : i ≡ j). omega arith) (λ (_, most). ⊎_elim (λ (p : to + w ≤ a). omega arith) (λ (p : a + w ≤ to). absurd (omega arith)) d) h.inside)
+      h.written.same (a + k) (λ q. ⊎_elim (λ (p : a ≤ to). absurd (omega arith)) (λ (p : to + w ≤ a). omega (arith, h.most)) d)
 
 -- a column from the price on
 pub join_from_lem : (c : Cand) (price : ℕ) (x : Row) (b : ℕ) → price ≤ b → join_of c (x (b - price)) ≡ join_from c price x b

@@ -1,5 +1,6 @@
 -- A candidate's two words: which of two is better, two joined, one charged with a branch.
 use Rattle.std.specs.Prelude.{if◌then◌else◌}
+use Rattle.std.proofs.lemmas.Bool.{cases_eq}
 use Prim.Native.Nat.{ℕ, ◌+◌, ◌*◌, ◌-◌, ◌/◌, ◌%◌, ◌<◌, ◌≤◌}
 use mathlib.Core.Path.{◌≡◌, refl, sym, ap, ◌∙◌}
 use mathlib.Core.Logic.{◌≢◌, inl, inr, ⊎_elim}
@@ -8,12 +9,12 @@ use native.Mathlib.Omega.{arith}
 use native.Mathlib.Nat.{eq-or-lt_of_le}
 use lib.Dec.{eqb, ltb}
 use borrow.Author.Tests.{lt-ltb, le-ltb, eq-eqb, ne_eqb, eqb-true, eqb-false, ltb-true, ltb-false}
-use Rattle.laws.specs.Candidate.{Value, plus, nothing_worth, heading, none, some, beats, better_of, join_of, charge_of}
+use Rattle.laws.specs.Candidate.{Value, plus, nothing_worth, heading, Cand, none, some, beats, better_of, join_of, charge_of}
 use Rattle.laws.proofs.Order.{Beats, more_locked, more, cheaper, earlier, AtLeast, value_path, beats_true, beats_false}
 use Rattle.cells.specs.Cells.{unit, lift, word_limit, seen, locked_of, diversity_of, cost_of, code_of, Joinable, Chargeable}
 
 -- the value of a score that isn't 0
-abbrev value_of : ℕ → ℕ → Value
+abbrev pub value_of : ℕ → ℕ → Value
 value_of s m = record { locked = (s - 1) / unit / lift; diversity = (s - 1) / unit % lift; cost = unit - 1 - (s - 1) % unit; code = m }
 
 pub seen_none : (s m : ℕ) → s ≡ 0 → seen s m ≡ none
@@ -165,28 +166,6 @@ seen_worth k d c m g l =
     let e : ((k * lift + d + 1) * unit - c - 1) / unit ≡ k * lift + d = omega arith in
     seen_some _ _ (λ e. omega arith) ∙ ap some (value_path (rw e (omega arith)) (rw e (omega arith)) (omega arith) refl)
 
--- the parts of a candidate
-module _ (s m : ℕ) where
-  pub diversity_none : s ≡ 0 → 0 ≡ diversity_of (seen s m)
-  unfolding diversity_of
-  diversity_none e = rw (seen_none s m e)
-
-  pub diversity_some : (s ≡ 0 → ⊥) → (s - 1) / unit % lift ≡ diversity_of (seen s m)
-  unfolding diversity_of
-  diversity_some h = rw (seen_some s m h)
-
-  pub cost_none : s ≡ 0 → 0 ≡ cost_of (seen s m)
-  unfolding cost_of
-  cost_none e = rw (seen_none s m e)
-
-  pub cost_some : (s ≡ 0 → ⊥) → unit - 1 - (s - 1) % unit ≡ cost_of (seen s m)
-  unfolding cost_of
-  cost_some h = rw (seen_some s m h)
-
-  pub locked_none : s ≡ 0 → 0 ≡ locked_of (seen s m)
-  unfolding locked_of
-  locked_none e = rw (seen_none s m e)
-
-  pub locked_some : (s ≡ 0 → ⊥) → (s - 1) / unit / lift ≡ locked_of (seen s m)
-  unfolding locked_of
-  locked_some h = rw (seen_some s m h)
+-- a part of a candidate, by whether its score is 0
+pub part_is : {s m r : ℕ} (part : Cand → ℕ) → (s ≡ 0 → r ≡ part none) → (s ≢ 0 → r ≡ part (some (value_of s m))) → r ≡ part (seen s m)
+part_is {s} {m} part absent there = ⊎_elim (λ z. rw (seen_none s m z) (absent z)) (λ n. rw (seen_some s m n) (there n)) (cases_eq s 0)

@@ -1,8 +1,10 @@
 -- Rows of candidates in a list of numbers, and what is written of them.
 use Rattle.std.specs.Prelude.{if◌then◌else◌, ℕ, ◌+◌, ◌*◌, ◌-◌, ◌<◌, ◌≤◌, ◌≡◌, ◌⊎◌, ◌≢◌, List, leb, length}
+use denote.Ref.{Bor}
 use Rattle.laws.specs.Candidate.{nothing_worth, heading, Cand, none, some, better_of, join_of, charge_of}
 use Rattle.rows.specs.Rows.{Row, better_row}
-use Rattle.cells.specs.Cells.{cell, Joinable, Chargeable}
+use Rattle.cells.specs.declared.candidate.Candidate.{Candidate}
+use Rattle.cells.specs.Cells.{view, cell, Joinable, Chargeable}
 
 -- the row that begins at a cell
 abbrev pub row_at : List ℕ → ℕ → Row
@@ -21,6 +23,21 @@ pub record Put (k : ℕ) (c : Cand) (l m : List ℕ) : Type 0 where
 pub record RowWritten (to lo hi : ℕ) (x : Row) (l m : List ℕ) : Type 0 where
   pub row : (b : ℕ) → lo ≤ b → b < hi → cell m (to + b) ≡ x b
   pub same : (k : ℕ) → (to + lo ≤ k → to + hi ≤ k) → cell m k ≡ cell l k
+
+-- m is l but for the columns from lo up to hi of the row that begins at a cell
+pub record Besides (to lo hi : ℕ) (l m : List ℕ) : Type 0 where
+  pub long : length m ≡ length l
+  pub same : (k : ℕ) → (to + lo ≤ k → to + hi ≤ k) → cell m k ≡ cell l k
+
+-- for each column a closure may be called, with whatever may stand once those before it are made
+pub record Makes (pre : Bor (List ℕ) → ℕ → Type 0) (to lo hi : ℕ) (l : List ℕ) : Type 0 where
+  pub callable : (rows : Bor (List ℕ)) (b : ℕ) → lo ≤ b → b < hi → Besides to lo b l rows.now → pre rows b
+
+-- m is l with the columns made: each is what such a call gave
+pub record Made (post : Bor (List ℕ) → ℕ → Candidate → Type 0) (to lo hi : ℕ) (l m : List ℕ) : Type 0 where
+  pub made : (b : ℕ) → lo ≤ b → b < hi
+      → (rows : Bor (List ℕ)) × ((c : Candidate) × Besides to lo b l rows.now × post rows b c × (cell m (to + b) ≡ view c))
+  pub others : Besides to lo hi l m
 
 -- the row at a, if it is the one at cell 0, has no set in any column
 abbrev pub Blank : List ℕ → ℕ → ℕ → Type 0

@@ -1,8 +1,10 @@
-// Rows of candidates in lent memory: one loop over the columns each.
+// Rows of candidates in lent memory, written column by column.
+// The memory and the width go along as two parameters. In a struct of both, tried with two of these functions, a caller knows of a
+// method with `&mut self` only what its contract says: each would say also that the width and the borrow stay as they are.
 ghost use Rattle.std.specs.Prelude.{◌≡◌, ◌+◌, ◌*◌, ◌<◌, ◌≤◌, length};
 ghost use Rattle.laws.specs.Candidate.{none, better_of};
 ghost use Rattle.cells.specs.Cells.{view, cell};
-ghost use Rattle.cells.specs.Memory.{row_at, Put, RowWritten, Betters, Bettering, BetteringBy, ChargesFrom, ChargingFrom};
+ghost use Rattle.cells.specs.Memory.{row_at, Makes, Made, Put, RowWritten, Betters, Bettering, BetteringBy, ChargesFrom, ChargingFrom};
 ghost use Rattle.cells.specs.Memory.{Charges, Charging, Follows, Joins, Joining, Adds};
 
 use super::candidate::Candidate;
@@ -41,14 +43,31 @@ fn put(work: &mut [u64], at: usize, c: Candidate)
     work[k + 1] = c.set;
 }
 
+// Makes each column of a row from lo up to hi what `make` gives for it. From the first column to the last: `make` reads the rows
+// as they stand when the columns before it are made.
+fn each_column<F: Fn(&[u64], usize) -> Candidate>(
+    work: &mut [u64],
+    to: usize,
+    lo: usize,
+    hi: usize,
+    make: F,
+)
+    requires inside { 2 * (to + hi) ≤ length work.old }
+    requires makes { Makes (F.pre make) to lo hi work.old }
+    ensures { Made (F.post make) to lo hi work.old work.new }
+{
+    for b in lo..hi {
+        let c = make(work, b);
+        put(work, to + b, c);
+    }
+}
+
 // Makes every column of a row from lo up to hi one candidate.
 pub fn fill_row(work: &mut [u64], to: usize, c: Candidate, lo: usize, hi: usize)
     requires { 2 * (to + hi) ≤ length work.old }
     ensures { RowWritten to lo hi (λ _. view c) work.old work.new }
 {
-    for b in lo..hi {
-        put(work, to + b, c);
-    }
+    each_column(work, to, lo, hi, |_, _| c);
 }
 
 // Betters every column of a row from lo up to hi by one candidate.
@@ -56,10 +75,7 @@ pub fn better_by(work: &mut [u64], to: usize, c: Candidate, lo: usize, hi: usize
     requires { 2 * (to + hi) ≤ length work.old }
     ensures { BetteringBy to (view c) lo hi work.old work.new }
 {
-    for b in lo..hi {
-        let d = read(work, to + b);
-        put(work, to + b, d.better(c));
-    }
+    each_column(work, to, lo, hi, |rows, b| read(rows, to + b).better(c));
 }
 
 // Makes each column of a row the better of two rows' columns.
@@ -67,15 +83,13 @@ pub fn better_rows(work: &mut [u64], to: usize, x: usize, y: usize, width: usize
     requires { Betters work.old to x y width }
     ensures { Bettering to x y width work.old work.new }
 {
-    for b in 0..width {
-        let c = read(work, x + b);
-        let d = column(work, y, b);
-        put(work, to + b, c.better(d));
-    }
+    each_column(work, to, 0, width, |rows, b| {
+        read(rows, x + b).better(column(rows, y, b))
+    });
 }
 
 // Makes each column from the price on the better of two: one row's, moved right by the price and charged with a heading, and
-// another's. From the last column to the first, so that the row that is written may be the one that is moved.
+// another's. It alone goes from the last column to the first, so that the row that is written may be the one that is moved.
 pub fn charge_from(
     work: &mut [u64],
     to: usize,
@@ -107,7 +121,7 @@ pub fn charge_row(work: &mut [u64], to: usize, branch: u64, price: usize, y: usi
         return;
     }
     charge_from(work, to, to, branch, price, y, width);
-    better_rows(work, to, y, 0, price.min(width));
+    better_rows(work, to, y, 0, width.min(price));
 }
 
 // What may follow in a column: the better of two rows'. The row at `width` has nothing chosen in any column, so it is not read.
@@ -138,12 +152,11 @@ pub fn join_row(
     requires { Joins work.old to own above cost x y z width }
     ensures { Joining to own above cost x y z width work.old work.new }
 {
-    for b in cost..width {
-        let c = read(work, own + b).charged(0, above as u64);
-        let next = follower(work, x, y, b - cost, width);
-        let other = column(work, z, b);
-        put(work, to + b, c.joined(next).better(other));
-    }
+    each_column(work, to, cost, width, |rows, b| {
+        let c = read(rows, own + b).charged(0, above as u64);
+        let next = follower(rows, x, y, b - cost, width);
+        c.joined(next).better(column(rows, z, b))
+    });
 }
 
 // Adds another row to one that has nothing chosen in any column: what the two have together is what the other has.
@@ -151,9 +164,7 @@ pub fn add_row(work: &mut [u64], to: usize, y: usize, width: usize)
     requires { Adds work.old to y width }
     ensures { RowWritten to 0 width (row_at work.old y) work.old work.new }
 {
-    for b in 0..width {
-        let c = read(work, to + b);
-        let d = column(work, y, b);
-        put(work, to + b, c.added(d));
-    }
+    each_column(work, to, 0, width, |rows, b| {
+        read(rows, to + b).added(column(rows, y, b))
+    });
 }

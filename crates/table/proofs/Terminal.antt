@@ -52,7 +52,7 @@ module _ (o : List ℕ) (r : ℕ) where
   }
 
 -- ---- nothing chosen below the price, and then the taxon
-module _ (o : List ℕ) (r : ℕ) {to w n : ℕ} {l m : List ℕ} {c : Cand} (e : n ≡ min (price o r) w) (is_nothing : c ≡ some nothing_worth)
+module _ (o : List ℕ) (r : ℕ) {to w n : ℕ} {l m : List ℕ} {c : Cand} (e : n ≡ min w (price o r)) (is_nothing : c ≡ some nothing_worth)
     (zeros : RowWritten to 0 n (λ _. c) l m) where
   under : (b : ℕ) → b < w → b < price o r → cell m (to + b) ≡ terminal_row o r b
   under b h q = zeros.row b (omega arith) (omega arith) ∙ is_nothing ∙ sym (terminal_below o r b q)
@@ -128,7 +128,7 @@ module _ (o : List ℕ) (r above : ℕ) where
   charged_there e = none_some (sym e ∙ charged_taxon)
 
 -- ---- joined where it stands: below the price, and then from the price on
-module _ {o : List ℕ} {r x y to w : ℕ} {l : List ℕ} (j : TaxonJoins o r x y to w l) (f : Finished o r to w l) {n : ℕ} (e : n ≡ min (price o r) w) where
+module _ {o : List ℕ} {r x y to w : ℕ} {l : List ℕ} (j : TaxonJoins o r x y to w l) (f : Finished o r to w l) {n : ℕ} (e : n ≡ min w (price o r)) where
   abbrev p : ℕ
   p = price o r
 

@@ -47,7 +47,7 @@ pub fn terminal_row(o: &[u8], r: usize, to: usize, width: usize, work: &mut [u64
 {
     let price = price_of(o, r) as usize;
     let nothing = read(work, width);
-    fill_row(work, to, nothing, 0, price.min(width));
+    fill_row(work, to, nothing, 0, width.min(price));
     if price < width {
         let taxon = taxon_of(o, r, branch_of(o, r) as u64, price as u64);
         fill_row(work, to, taxon, price, width);
@@ -95,6 +95,6 @@ pub fn join_terminal(
     ensures { TaxonRow o.now r x y to width work.old work.new }
 {
     let price = price_of(o, r) as usize;
-    add_row(work, to, y, price.min(width));
+    add_row(work, to, y, width.min(price));
     join_after(work, to, price, x, y, width);
 }

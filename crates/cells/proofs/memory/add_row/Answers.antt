@@ -1,8 +1,12 @@
-use Rattle.std.proofs.Common.{◌∙◌, arith}
-use Rattle.cells.proofs.RowWritten.{filling_goes, aside_same}
+-- `cells::memory::add_row` meets its contract: each column is what the other row has, which stands as at entry.
+use Rattle.std.proofs.Common.{◌≡◌, ◌+◌, ◌∙◌, rules}
+use Rattle.cells.specs.Cells.{view, cell}
+use Rattle.cells.proofs.RowWritten.{made_row, aside_same}
 use Rattle.cells.proofs.memory.add_row.Goals as goal
 
-pub loop-b-preserved : goal.loop-b-preserved
-loop-b-preserved c =
-    let other = c.column-d.ensures ∙ aside_same c.loop-b.invariant c.requires.other.aside c.loop-b-test.true in
-    filling_goes c.loop-b.invariant (omega arith) c.loop-b-test.true c.put.ensures c.put.auto.work (c.added.ensures ∙ other)
+pub returns : goal.returns
+returns c =
+    made_row _ c.each_column.ensures
+    (λ m b d least most same given.
+    let made : view d ≡ cell m.now (c.args.y + b) = search rules in
+    made ∙ aside_same same most c.requires.other.aside)

@@ -1,10 +1,14 @@
-use Rattle.std.proofs.Common.{ap₂, ◌∙◌, arith}
+-- `cells::memory::better_rows` meets its contract: each column is made of two that stand as at entry.
+use Rattle.std.proofs.Common.{◌≡◌, ◌+◌, ap₂, ◌∙◌, rules}
 use Rattle.laws.specs.Candidate.{better_of}
-use Rattle.cells.proofs.RowWritten.{filling_goes, aside_same}
+use Rattle.cells.specs.Cells.{view, cell}
+use Rattle.cells.proofs.RowWritten.{made_row, aside_same}
 use Rattle.cells.proofs.memory.better_rows.Goals as goal
 
-pub loop-b-preserved : goal.loop-b-preserved
-loop-b-preserved c =
-    let first = c.read-c.ensures ∙ aside_same c.loop-b.invariant c.requires.first.aside c.loop-b-test.true in
-    let second = c.column-d.ensures ∙ aside_same c.loop-b.invariant c.requires.second.aside c.loop-b-test.true in
-    filling_goes c.loop-b.invariant (omega arith) c.loop-b-test.true c.put.ensures c.put.auto.work (c.better.ensures ∙ ap₂ better_of first second)
+pub returns : goal.returns
+returns c =
+    let a = c.args in
+    made_row _ c.each_column.ensures
+    (λ m b d least most same given.
+    let made : view d ≡ better_of (cell m.now (a.x + b)) (cell m.now (a.y + b)) = search rules in
+    made ∙ ap₂ better_of (aside_same same most c.requires.first.aside) (aside_same same most c.requires.second.aside))

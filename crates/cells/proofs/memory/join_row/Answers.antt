@@ -1,20 +1,22 @@
-use Rattle.std.proofs.Common.{◌-◌, ap, ap₂, ◌∙◌, arith}
+-- `cells::memory::join_row` meets its contract: each column is made of four that stand as at entry.
+use Rattle.std.proofs.Common.{◌≡◌, ◌+◌, ◌-◌, arith, ap, ap₂, ◌∙◌, rules}
 use Rattle.laws.specs.Candidate.{better_of, join_of, charge_of}
 use Rattle.rows.specs.Rows.{better_row}
 use Rattle.cells.specs.Memory.{row_at}
-use Rattle.cells.proofs.RowWritten.{filling_goes, aside_same, apart_same, join_from_lem}
+use Rattle.cells.specs.Cells.{view, cell}
+use Rattle.cells.proofs.RowWritten.{made_row, aside_same, apart_same, join_from_lem}
 use Rattle.cells.proofs.memory.join_row.Goals as goal
 
-pub loop-b-preserved : goal.loop-b-preserved
-loop-b-preserved c =
+pub returns : goal.returns
+returns c =
     let a = c.args in
-    let b = c.loop-b.b in
-    let inv = c.loop-b.invariant in
     let beside = c.requires.beside in
-    let own = c.charged-c.ensures ∙ ap (λ d. charge_of d 0 a.above) (c.read.ensures ∙ aside_same inv c.requires.taken.aside c.loop-b-test.true) in
-    let next =
-    c.follower-next.ensures
-    ∙ ap₂ better_of (apart_same inv beside.first_apart (b - a.cost) (omega arith)) (apart_same inv beside.second_apart (b - a.cost) (omega arith)) in
-    let joined = c.joined.ensures ∙ ap₂ join_of own next ∙ join_from_lem _ _ (better_row (row_at a.work.now a.x) (row_at a.work.now a.y)) b inv.ordered in
-    let over = c.column-other.ensures ∙ aside_same inv c.requires.over.aside c.loop-b-test.true in
-    filling_goes inv (omega arith) c.loop-b-test.true c.put.ensures c.put.auto.work (c.better.ensures ∙ ap₂ better_of joined over)
+    made_row _ c.each_column.ensures
+    (λ m b d least most same given.
+    let made : view d
+    ≡ better_of (join_of (charge_of (cell m.now (a.own + b)) 0 a.above) (better_of (cell m.now (a.x + (b - a.cost))) (cell m.now (a.y + (b - a.cost))))) (cell m.now (a.z + b))
+    = search rules in
+    let own = ap (λ e. charge_of e 0 a.above) (aside_same same most c.requires.taken.aside) in
+    let next = ap₂ better_of (apart_same same most beside.first_apart (omega arith)) (apart_same same most beside.second_apart (omega arith)) in
+    let joined = ap₂ join_of own next ∙ join_from_lem _ _ (better_row (row_at a.work.now a.x) (row_at a.work.now a.y)) b least in
+    made ∙ ap₂ better_of joined (aside_same same most c.requires.over.aside))

@@ -1,12 +1,9 @@
 -- `cells::candidate::Candidate::cost` meets its contract.
-use Rattle.cells.specs.Cells.{view}
-use Rattle.cells.proofs.Words.{cost_none, cost_some}
+use Rattle.std.proofs.Common.{rules}
+use Rattle.cells.specs.Cells.{view, cost_of}
+use Rattle.cells.proofs.Words.{part_is}
 use Rattle.cells.proofs.candidate.Candidate.cost.Goals as goal
 
-pub returns-then-self-eq0 : goal.returns-then-self-eq0
-unfolding view
-returns-then-self-eq0 c = cost_none _ _ c.if-self-eq0.true
-
 pub returns : goal.returns
-unfolding view
-returns c = cost_some _ _ c.if-self-eq0.false
+unfolding view cost_of
+returns c = part_is cost_of (λ z. search rules) (λ n. search rules)
