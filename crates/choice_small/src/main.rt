@@ -11,25 +11,18 @@ mod sets;
 mod trial;
 
 use std::io;
-use trial::Trial;
+use trial::{Tally, Trial};
 
 fn main(rt: HostRuntime) -> io::Result<()> {
-    let mut trial = Trial::new(&rt);
+    let mut trial = Trial {
+        rt: &rt,
+        tally: Tally::default(),
+    };
     trial.tied()?;
     trial.shaped()?;
     trial.interleaved()?;
     trial.headings()?;
     trial.locks()?;
-    random::outlines(&rt, &mut trial)?;
-    let Trial {
-        outlines,
-        headed,
-        locked,
-        refused,
-        compared,
-        wrong,
-        ..
-    } = trial;
-    println!(rt; "{outlines} outlines, {headed} with headings, {locked} with locks")?;
-    println!(rt; "{refused} calls refused, {compared} values compared, {wrong} wrong")
+    trial.random()?;
+    println!(rt; "{}", trial.tally)
 }

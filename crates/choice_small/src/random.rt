@@ -101,14 +101,16 @@ impl Generator {
     }
 }
 
-pub fn outlines<R: Print + AllocGlobal>(rt: &R, trial: &mut Trial<R>) -> io::Result<()> {
-    let mut generator = Generator(1);
-    for k in 1..=80 {
-        let n = 4 + generator.draw(8) as usize;
-        let outline = generator.outline(n, Highest::of(k));
-        let locks = generator.locks(k);
-        let label = format!(in rt.alloc(); "random {k}")?;
-        trial.both(label.as_str(), &outline.locked(locks))?;
+impl<R: Print + AllocGlobal> Trial<'_, R> {
+    pub fn random(&mut self) -> io::Result<()> {
+        let mut generator = Generator(1);
+        for k in 1..=80 {
+            let n = 4 + generator.draw(8) as usize;
+            let outline = generator.outline(n, Highest::of(k));
+            let locks = generator.locks(k);
+            let label = format!(in self.rt.alloc(); "random {k}")?;
+            self.both(label.as_str(), &outline.locked(locks))?;
+        }
+        Ok(())
     }
-    Ok(())
 }

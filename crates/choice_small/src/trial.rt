@@ -1,6 +1,4 @@
 // Choosing beside the trial of every set.
-ghost use Rattle.std.specs.Prelude.{◌<◌};
-
 use super::sets::{Tree, Worth};
 use choice::{Figures, choose};
 use refusals::Refusal;
@@ -8,47 +6,53 @@ use samples::buffers::front;
 use samples::outlines::Sample;
 use samples::ways::{BOTH, Way};
 use samples::words::Fields;
-use std::alloc::Global;
 use std::fmt::Display;
-use std::io;
+use std::{fmt, io};
 
 // What each byte or number of the buffers holds before a call.
 const UNTOUCHED: u8 = 9;
 
-// The buffers of a call. Each has room beyond what 11 records and a count of 44 take.
-#[derive(Clone, Copy)]
-struct Buffers {
-    marks: [u8; 12],
-    curve: [u32; 92],
-    work: [u64; 2350],
+// How many values were compared and how many were wrong, and how many calls were refused; of how many outlines, and how many
+// of these have a heading, and a lock.
+#[derive(Clone, Copy, Default)]
+pub struct Tally {
+    compared: u32,
+    wrong: u32,
+    refused: u32,
+    outlines: u32,
+    headed: u32,
+    locked: u32,
 }
 
-// How many values were compared and how many were wrong, and how many calls were refused; of how many outlines, and how many
-// of these have a heading, and a lock. What is wrong is printed.
+impl fmt::Display for Tally {
+    fn fmt<W: fmt::Write>(&self, f: &mut fmt::Formatter<W>) -> fmt::Result {
+        let Tally {
+            compared,
+            wrong,
+            refused,
+            outlines,
+            headed,
+            locked,
+        } = *self;
+        writeln!(
+            f,
+            "{outlines} outlines, {headed} with headings, {locked} with locks"
+        )?;
+        write!(
+            f,
+            "{refused} calls refused, {compared} values compared, {wrong} wrong"
+        )
+    }
+}
+
+// The tally so far, and where what is wrong is printed.
 #[derive(Drop)]
 pub struct Trial<'a, R: Print> {
-    rt: &'a R,
-    pub compared: u32,
-    pub wrong: u32,
-    pub refused: u32,
-    pub outlines: u32,
-    pub headed: u32,
-    pub locked: u32,
+    pub rt: &'a R,
+    pub tally: Tally,
 }
 
-impl<'a, R: Print> Trial<'a, R> {
-    pub fn new(rt: &'a R) -> Self {
-        Self {
-            rt,
-            compared: 0,
-            wrong: 0,
-            refused: 0,
-            outlines: 0,
-            headed: 0,
-            locked: 0,
-        }
-    }
-
+impl<R: Print> Trial<'_, R> {
     // One value more: what it is, at which count, and at which column or record.
     fn value<T: PartialEq + Display + Copy>(
         &mut self,
@@ -58,9 +62,9 @@ impl<'a, R: Print> Trial<'a, R> {
         want: T,
         got: T,
     ) -> io::Result<()> {
-        self.compared = self.compared.wrapping_add(1);
+        self.tally.compared = self.tally.compared.wrapping_add(1);
         if want != got {
-            self.wrong = self.wrong.wrapping_add(1);
+            self.tally.wrong = self.tally.wrong.wrapping_add(1);
             print!(self.rt; "\n  count {count}, {what} {at}: want {want}, got {got}")?;
         }
         Ok(())
@@ -148,7 +152,8 @@ impl<'a, R: Print> Trial<'a, R> {
         }
     }
 
-    // One call, at a count, with the best sets of the counts up to that. Where no set fits nothing is written.
+    // One call, at a count, with the best sets of the counts up to that. Where no set fits nothing is written. Each buffer has
+    // room beyond what 11 records and a count of 44 take.
     fn call(
         &mut self,
         tree: &Tree,
@@ -156,43 +161,34 @@ impl<'a, R: Print> Trial<'a, R> {
         count: u32,
         bests: &[Option<Worth>],
     ) -> io::Result<()> {
-        let mut lent = Buffers {
-            marks: [UNTOUCHED; 12],
-            curve: [UNTOUCHED as u32; 92],
-            work: [UNTOUCHED as u64; 2350],
-        };
+        let mut marks = [UNTOUCHED; 12];
+        let mut curve = [UNTOUCHED as u32; 92];
+        let mut work = [UNTOUCHED as u64; 2350];
         let o = tree.outline.bytes();
-        let answer = choose(
-            o,
-            count,
-            way as u32,
-            &mut lent.marks,
-            &mut lent.curve,
-            &mut lent.work,
-        );
+        let answer = choose(o, count, way as u32, &mut marks, &mut curve, &mut work);
         let best = bests.last().copied().flatten();
         self.answer(count, best, answer)?;
-        self.marks(tree, count, best, &lent.marks)?;
+        self.marks(tree, count, best, &marks)?;
         if best.is_none() {
-            self.refused = self.refused.wrapping_add(1);
-            self.curve(count, &[], &lent.curve)?;
-            return self.work(count, 0, &lent.work);
+            self.tally.refused = self.tally.refused.wrapping_add(1);
+            self.curve(count, &[], &curve)?;
+            return self.work(count, 0, &work);
         }
-        self.curve(count, bests, &lent.curve)?;
-        self.work(count, tree.outline.len + 2, &lent.work)
+        self.curve(count, bests, &curve)?;
+        self.work(count, tree.outline.len + 2, &work)
     }
 }
 
 impl<R: Print + AllocGlobal> Trial<'_, R> {
     // One way, at every count up to the cost of all taxa, and up to 44. Ends the line that the outline's name began.
     fn way(&mut self, tree: &Tree, way: Way) -> io::Result<()> {
-        let before = self.wrong;
+        let before = self.tally.wrong;
         let most = tree.dearest().min(44);
         let bests = tree.bests(self.rt.alloc(), way, most)?;
         for count in 0..=most {
             self.call(tree, way, count, front(&bests, count as usize + 1))?;
         }
-        if self.wrong == before {
+        if self.tally.wrong == before {
             return println!(self.rt; " ok");
         }
         for r in 1..=tree.outline.len {
@@ -218,9 +214,9 @@ impl<R: Print + AllocGlobal> Trial<'_, R> {
             print!(self.rt; "{label}{headed}{locked} {way}")?;
             self.way(&tree, way)?;
         }
-        self.outlines = self.outlines.wrapping_add(1);
-        self.headed = self.headed.wrapping_add(outline.has_heading() as u32);
-        self.locked = self.locked.wrapping_add((tree.locked != 0) as u32);
+        self.tally.outlines = self.tally.outlines.wrapping_add(1);
+        self.tally.headed = self.tally.headed.wrapping_add(outline.has_heading() as u32);
+        self.tally.locked = self.tally.locked.wrapping_add((tree.locked != 0) as u32);
         Ok(())
     }
 }

@@ -1,5 +1,5 @@
 // Outlines, made record by record as document 01 writes them: next, first, length, price, plate.
-ghost use Rattle.std.specs.Prelude.{◌≡◌, ◌+◌, ◌*◌, ◌<◌, ◌≤◌, length};
+ghost use Rattle.std.specs.Prelude.{◌≡◌, ◌*◌, ◌≤◌, length};
 
 // At most 129 records, two more than an outline may have. The bytes past them are 0.
 #[derive(Clone, Copy)]
