@@ -18,10 +18,8 @@ pub fn mark_locked(o: &[u8], marks: &mut [u8])
     ensures { marks.new ≡ over (locked_set o.now) marks.old }
 {
     let n = o.len() / 16;
-    let mut i = 0;
-    while i < n {
+    for i in 0..n {
         marks[i] = is_locked(o, i + 1) as u8;
-        i += 1;
     }
 }
 

@@ -4,20 +4,14 @@ ghost use Rattle.measures.specs.Inner.{Marked};
 
 use super::chain::measure_chain;
 use super::figures::Measure;
+use lists::count;
 
 // How many records are marked.
 pub fn marked(o: &[u8], marks: &[u8]) -> u32
     requires { Measurable o.now marks.now }
     ensures { Marked o.now marks.now result }
 {
-    let n = o.len() / 16;
-    let mut sum = 0;
-    let mut r = 1;
-    while r <= n {
-        sum += (marks[r - 1] == 1) as u32;
-        r += 1;
-    }
-    sum
+    count(o.len() / 16, |r| marks[r - 1] == 1) as u32
 }
 
 // The measures of the marked set, its diversity by the way of counting: rooted for 0, else unrooted. The unrooted way counts a

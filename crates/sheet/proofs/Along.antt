@@ -1,5 +1,5 @@
 -- The tables of first places: one is filled from the last record on, the other from the root on.
-use Prim.Native.Nat.{ℕ, zero, suc, ◌+◌, ◌-◌, ◌≤◌, ◌<◌}
+use Prim.Native.Nat.{ℕ, zero, suc, ◌+◌, ◌-◌, ◌≤◌, ◌<◌, min, max}
 use mathlib.Core.Path.{◌≡◌, ◌∙◌}
 use mathlib.Core.List.{List}
 use native.Mathlib.Omega.{arith}
@@ -8,7 +8,7 @@ use Rattle.outline.specs.Inner.{numbers}
 use Rattle.outline.specs.Outline.{size, next, first, IsRecord}
 use Rattle.outline.specs.WellFormed.{Later, Linked}
 use Rattle.laws.proofs.Handing.{stored, Handing, handing_at, handing_goes, handing_ends}
-use Rattle.sheet.specs.Inner.{lower, higher, no_place, place_of, Since, price_counts, branch_counts, FirstIn, FirstOut, Outsides, HasFirsts}
+use Rattle.sheet.specs.Inner.{no_place, place_of, Since, price_counts, branch_counts, FirstIn, FirstOut, Outsides, HasFirsts}
 use Rattle.sheet.proofs.Places.{first_none, out_members, out_rest, branch_since}
 
 -- ---- the first taxon of each chain: known for the empty chain, and for those that begin after record r
@@ -55,7 +55,7 @@ Onwards o way s r outsides = Handing o (FirstOut o way s) r outsides
 -- record r hands on what is outside the chain of its members, and outside the rest of its chain
 pub onwards_goes : {o : List ℕ} (way : ℕ) {s : List ℕ} {r : ℕ} {outsides : List ℕ} → Onwards o way s r outsides
     → {firsts : List ℕ} {f n place around x y : ℕ} → HasFirsts o s firsts → r ≤ size o → f ≡ first o r → n ≡ next o r → place ≡ place_of s r
-    → around ≡ lower (get_or outsides r 0) place → x ≡ lower around (get_or firsts n 0) → y ≡ lower around (get_or firsts f 0)
+    → around ≡ min (get_or outsides r 0) place → x ≡ min around (get_or firsts n 0) → y ≡ min around (get_or firsts f 0)
     → Onwards o way s (r + 1) (set (set outsides f x) n y)
 onwards_goes {o} way {s} {r} b p u ef en ep ea ex ey =
     let formed = p.base.formed in
@@ -70,5 +70,5 @@ onwards_ends way b linked h = record { at_record = handing_ends b linked h }
 
 -- both tables, at a record: the place from which on its branch counts
 pub branch_at : {o s firsts outsides : List ℕ} (way : ℕ) {r n x y z : ℕ} → HasFirsts o s firsts → Outsides o way s outsides → IsRecord o r → n ≡ next o r
-    → Since x (price_counts o s r) → y ≡ lower (get_or outsides r 0) (get_or firsts n 0) → z ≡ higher x y → Since z (branch_counts o way s r)
+    → Since x (price_counts o s r) → y ≡ min (get_or outsides r 0) (get_or firsts n 0) → z ≡ max x y → Since z (branch_counts o way s r)
 branch_at {s = s} way p out i en a ey ez = rw (ez, ey, en) (branch_since p.base.formed i s way (out.at_record _ i) a (rest_placed p i))

@@ -1,13 +1,13 @@
 -- From which place on a record counts: the first chosen taxon of a chain and of a clade, and the first outside them, along the links.
 use Rattle.std.specs.Prelude.{if◌then◌else◌}
-use Prim.Native.Nat.{ℕ, zero, suc, ◌+◌, ◌-◌, ◌≤◌}
+use Prim.Native.Nat.{ℕ, zero, suc, ◌+◌, ◌-◌, ◌≤◌, min, max}
 use mathlib.Core.Path.{◌≡◌, refl, sym, ap, ap₂, ◌∙◌}
 use mathlib.Core.Bool.{Bool, true, false, ◌||◌, ◌&&◌}
 use mathlib.Core.List.{List}
-use native.Mathlib.Nat.{zero-add}
+use native.Mathlib.Nat.{zero-add, min-le_left, min-le_right}
 use native.Mathlib.Omega.{arith}
-use lib.Dec.{eqb, ltb, leb}
-use borrow.Author.Tests.{ltb-true, ltb-false, leb-true, leb-false, lt-ltb, le-ltb}
+use lib.Dec.{eqb, ltb}
+use borrow.Author.Tests.{ltb-true, ltb-false, lt-ltb, le-ltb}
 use Rattle.lists.specs.Lists.{one, positive}
 use Rattle.outline.specs.Outline.{next, first, IsRecord}
 use Rattle.outline.specs.WellFormed.{WellFormed}
@@ -18,46 +18,37 @@ use Rattle.laws.proofs.Forest.{tree_zero, tree_step, sum_part, sum_all}
 use Rattle.laws.proofs.ByTree.{chosen_below, within_count, elsewhere_count}
 use Rattle.laws.proofs.Prefixes.{chosen_up_to}
 use Rattle.sheet.specs.Sheet.{up_to}
-use Rattle.sheet.specs.Inner.{lower, higher, no_place, place_of, Since, in_chain, out_chain, price_counts, branch_counts, FirstIn, FirstOut}
+use Rattle.sheet.specs.Inner.{no_place, place_of, Since, in_chain, out_chain, price_counts, branch_counts, FirstIn, FirstOut}
 use Rattle.outline.specs.Rules.{most_records}
 use Rattle.laws.specs.Measures.{chosen_in}
 
 -- ---- a place before k: the lower of two is where either is, the higher where both are
-before_lower : (x y k : ℕ) → ltb (lower x y) k ≡ (ltb x k || ltb y k)
-before_lower x y k = go (leb x y) refl (ltb x k) refl (ltb y k) refl
+before_lower : (x y k : ℕ) → ltb (min x y) k ≡ (ltb x k || ltb y k)
+before_lower x y k = go (ltb x k) refl (ltb y k) refl
   where
-    go : (b : Bool) → leb x y ≡ b → (c : Bool) → ltb x k ≡ c → (d : Bool) → ltb y k ≡ d → ltb (if b then x else y) k ≡ (c || d)
-    go true e true p d q = p
-    go true e false p true q = absurd (omega (arith, leb-true x y e, ltb-false x k p, ltb-true y k q))
-    go true e false p false q = p
-    go false e true p d q = lt-ltb y k (omega (arith, leb-false x y e, ltb-true x k p))
-    go false e false p d q = q
+    go : (c : Bool) → ltb x k ≡ c → (d : Bool) → ltb y k ≡ d → ltb (min x y) k ≡ (c || d)
+    go true p d q = lt-ltb (min x y) k (omega (arith, min-le_left x y, ltb-true x k p))
+    go false p true q = lt-ltb (min x y) k (omega (arith, min-le_right x y, ltb-true y k q))
+    go false p false q = le-ltb (min x y) k (omega (arith, ltb-false x k p, ltb-false y k q))
 
-before_higher : (x y k : ℕ) → ltb (higher x y) k ≡ (ltb x k && ltb y k)
-before_higher x y k = go (leb x y) refl (ltb x k) refl (ltb y k) refl
+before_higher : (x y k : ℕ) → ltb (max x y) k ≡ (ltb x k && ltb y k)
+before_higher x y k = go (ltb x k) refl (ltb y k) refl
   where
-    go : (b : Bool) → leb x y ≡ b → (c : Bool) → ltb x k ≡ c → (d : Bool) → ltb y k ≡ d → ltb (if b then y else x) k ≡ (c && d)
-    go true e true p d q = q
-    go true e false p d q = le-ltb y k (omega (arith, leb-true x y e, ltb-false x k p))
-    go false e true p true q = p
-    go false e true p false q = absurd (omega (arith, leb-false x y e, ltb-true x k p, ltb-false y k q))
-    go false e false p d q = p
-
--- one of them
-if_within : (b : Bool) (x y : ℕ) → x ≤ no_place → y ≤ no_place → (if b then x else y) ≤ no_place
-if_within true x y h k = h
-if_within false x y h k = k
+    go : (c : Bool) → ltb x k ≡ c → (d : Bool) → ltb y k ≡ d → ltb (max x y) k ≡ (c && d)
+    go true p true q = lt-ltb (max x y) k (omega (arith, ltb-true x k p, ltb-true y k q))
+    go true p false q = le-ltb (max x y) k (omega (arith, ltb-false y k q))
+    go false p d q = le-ltb (max x y) k (omega (arith, ltb-false x k p))
 
 -- so hold either of two tests, and both
-since_lower : {x y : ℕ} {p q : ℕ → Bool} → Since x p → Since y q → Since (lower x y) (λ k. p k || q k)
+since_lower : {x y : ℕ} {p q : ℕ → Bool} → Since x p → Since y q → Since (min x y) (λ k. p k || q k)
 since_lower {x} {y} a b = record {
-  most = if_within (leb x y) x y a.most b.most;
+  most = omega (arith, a.most, b.most);
   each = λ k l u. before_lower x y k ∙ ap₂ ◌||◌ (a.each k l u) (b.each k l u);
 }
 
-since_higher : {x y : ℕ} {p q : ℕ → Bool} → Since x p → Since y q → Since (higher x y) (λ k. p k && q k)
+since_higher : {x y : ℕ} {p q : ℕ → Bool} → Since x p → Since y q → Since (max x y) (λ k. p k && q k)
 since_higher {x} {y} a b = record {
-  most = if_within (leb x y) y x b.most a.most;
+  most = omega (arith, a.most, b.most);
   each = λ k l u. before_higher x y k ∙ ap₂ ◌&&◌ (a.each k l u) (b.each k l u);
 }
 
@@ -89,7 +80,7 @@ positive_one false = refl
 
 -- a sum counts from the lower of the places on from which its parts do
 since_sum : {x y : ℕ} (m n sum : ℕ → ℕ) → ((k : ℕ) → m k + n k ≡ sum k) → Since x (λ k. positive (m k)) → Since y (λ k. positive (n k))
-    → Since (lower x y) (λ k. positive (sum k))
+    → Since (min x y) (λ k. positive (sum k))
 since_sum m n sum e a b = since_same (λ k. positive_either (m k) (n k) ∙ ap positive (e k)) (since_lower a b)
 
 -- the empty chain has no taxon
@@ -113,35 +104,35 @@ module _ {o : List ℕ} (formed : WellFormed o) {r : ℕ} (i : IsRecord o r) (s 
   since_own = since_same (λ k. sym (positive_one (chosen (up_to s k) r))) (since_chosen s r (omega (arith, i.high, formed.size_most)))
 
   -- the price of record r counts from the first taxon at or below it on
-  pub price_since : {x : ℕ} → FirstIn o s (first o r) x → Since (lower (place_of s r) x) (price_counts o s r)
+  pub price_since : {x : ℕ} → FirstIn o s (first o r) x → Since (min (place_of s r) x) (price_counts o s r)
   price_since f =
       since_same (λ k. sym (within_count o (up_to s k) r))
       (since_sum own (in_chain o s (first o r)) (λ k. chosen_below o (up_to s k) r) (λ k. refl) since_own f)
 
   -- its chain has the taxa at or below it and those of the rest of the chain
-  pub first_step : {x y : ℕ} → Since x (price_counts o s r) → FirstIn o s (next o r) y → FirstIn o s r (lower x y)
+  pub first_step : {x y : ℕ} → Since x (price_counts o s r) → FirstIn o s (next o r) y → FirstIn o s r (min x y)
   first_step a n =
       since_sum (λ k. chosen_below o (up_to s k) r) (in_chain o s (next o r)) (in_chain o s r) (λ k. omega (arith, stepped k))
       (since_same (λ k. within_count o (up_to s k) r) a) n
 
   module _ (way : ℕ) {x : ℕ} (out : FirstOut o way s r x) where
     -- outside its chain, and itself
-    around : Since (lower x (place_of s r)) (λ k. positive (out_chain o way s r k + own k))
+    around : Since (min x (place_of s r)) (λ k. positive (out_chain o way s r k + own k))
     around = since_sum (out_chain o way s r) own (λ k. out_chain o way s r k + own k) (λ k. refl) out since_own
 
     -- with the rest of its chain, that is what is outside the chain of its members; with its members, what is outside the rest
-    pub out_members : {y : ℕ} → FirstIn o s (next o r) y → FirstOut o way s (first o r) (lower (lower x (place_of s r)) y)
+    pub out_members : {y : ℕ} → FirstIn o s (next o r) y → FirstOut o way s (first o r) (min (min x (place_of s r)) y)
     out_members n =
         since_sum (λ k. out_chain o way s r k + own k) (in_chain o s (next o r)) (out_chain o way s (first o r))
         (λ k. omega (arith, stepped k, part k)) around n
 
-    pub out_rest : {y : ℕ} → FirstIn o s (first o r) y → FirstOut o way s (next o r) (lower (lower x (place_of s r)) y)
+    pub out_rest : {y : ℕ} → FirstIn o s (first o r) y → FirstOut o way s (next o r) (min (min x (place_of s r)) y)
     out_rest f =
         since_sum (λ k. out_chain o way s r k + own k) (in_chain o s (first o r)) (out_chain o way s (next o r))
         (λ k. omega (arith, stepped k, part k)) around f
 
     -- its branch counts where a taxon is at or below it and one is not
-    pub branch_since : {y z : ℕ} → Since y (price_counts o s r) → FirstIn o s (next o r) z → Since (higher y (lower x z)) (branch_counts o way s r)
+    pub branch_since : {y z : ℕ} → Since y (price_counts o s r) → FirstIn o s (next o r) z → Since (max y (min x z)) (branch_counts o way s r)
     branch_since a n =
         since_higher a
         (since_same (go (eqb way 0))

@@ -1,6 +1,6 @@
 -- What the functions behind `sheet` speak of. A taxon's place is that of its mark, one less than its record's number, so that the taxa up to
 -- record k are those at the places before k; the place of none is past every mark's.
-use Rattle.std.specs.Prelude.{if◌then◌else◌, ℕ, ◌+◌, ◌*◌, ◌-◌, ◌≤◌, ◌<◌, ◌≡◌, Bool, ◌||◌, ◌&&◌, List, [], ◌∷◌, length, get_or, eqb, ltb, leb}
+use Rattle.std.specs.Prelude.{if◌then◌else◌, ℕ, ◌+◌, ◌*◌, ◌-◌, ◌≤◌, ◌<◌, ◌≡◌, Bool, ◌||◌, ◌&&◌, List, [], ◌∷◌, length, get_or, eqb, ltb}
 use Rattle.lists.specs.Lists.{one, positive}
 use Rattle.outline.specs.Outline.{size, first, plate, IsRecord}
 use Rattle.outline.specs.WellFormed.{WellFormed}
@@ -20,13 +20,7 @@ pub record Listable (o s sheet : List ℕ) : Type 0 where
   pub is_set : IsSet o s
   pub room : 3 * chosen_taxa o s ≤ length sheet
 
--- ---- places: the lower of two, the higher, and that of none
-abbrev pub lower : ℕ → ℕ → ℕ
-lower x y = if leb x y then x else y
-
-abbrev pub higher : ℕ → ℕ → ℕ
-higher x y = if leb x y then y else x
-
+-- ---- places: that of none, past every other
 abbrev pub no_place : ℕ
 no_place = most_records
 

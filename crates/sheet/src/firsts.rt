@@ -1,31 +1,13 @@
 // The first taxon of a set in each chain, by its place.
 ghost use Rattle.std.specs.Prelude.{◌≡◌};
 ghost use Rattle.measures.specs.Measures.{Measurable};
-ghost use Rattle.sheet.specs.Inner.{lower, higher, place_of, HasMark, Since, price_counts, AtRecord, Firsts};
+ghost use Rattle.sheet.specs.Inner.{place_of, HasMark, Since, price_counts, AtRecord, Firsts};
 
 use outline::fields::{first_of, next_of};
 use outline::limits::{MOST_RECORDS, NUMBERS};
 
-// A taxon's place is that of its mark; the place of none is past every mark's.
+// A taxon's place is that of its mark. None is past every mark's place, and no `Option`, so that the lower of two places is `min`.
 pub const NONE: usize = MOST_RECORDS;
-
-pub fn lower_of(x: usize, y: usize) -> usize
-    ensures { result ≡ lower x y }
-{
-    if x <= y {
-        return x;
-    }
-    y
-}
-
-pub fn higher_of(x: usize, y: usize) -> usize
-    ensures { result ≡ higher x y }
-{
-    if x <= y {
-        return y;
-    }
-    x
-}
 
 // The place of record r, if it is chosen.
 pub fn place_of(set: &[u8], r: usize) -> usize
@@ -43,7 +25,7 @@ pub fn opened_at(o: &[u8], set: &[u8], firsts: &[usize; NUMBERS], r: usize) -> u
     requires { AtRecord o.now set.now firsts.now r }
     ensures { Since result (price_counts o.now set.now r) }
 {
-    lower_of(place_of(set, r), firsts[first_of(o, r)])
+    place_of(set, r).min(firsts[first_of(o, r)])
 }
 
 // The place of the first taxon in the chain that each link begins. Links lead to later records, so a pass from the last record on finds
@@ -52,12 +34,11 @@ pub fn firsts_of(o: &[u8], set: &[u8]) -> [usize; NUMBERS]
     requires { Measurable o.now set.now }
     ensures { Firsts o.now set.now result }
 {
+    let n = o.len() / 16;
     let mut firsts = [NONE; NUMBERS];
-    let mut r = o.len() / 16;
-    while 0 < r {
+    for r in (1..=n).rev() {
         let own = opened_at(o, set, &firsts, r);
-        firsts[r] = lower_of(own, firsts[next_of(o, r)]);
-        r -= 1;
+        firsts[r] = own.min(firsts[next_of(o, r)]);
     }
     firsts
 }

@@ -2,7 +2,7 @@
 ghost use Rattle.std.specs.Prelude.{if◌then◌else◌, ◌≡◌, eqb};
 ghost use Rattle.sheet.specs.Inner.{no_place, HasFirsts, Outsides};
 
-use super::firsts::{NONE, lower_of, place_of};
+use super::firsts::{NONE, place_of};
 use outline::fields::{first_of, next_of};
 use outline::limits::NUMBERS;
 
@@ -24,14 +24,12 @@ pub fn outsides_of(o: &[u8], way: u32, set: &[u8], firsts: &[usize; NUMBERS]) ->
 {
     let n = o.len() / 16;
     let mut outsides = [outside_root(way); NUMBERS];
-    let mut r = 1;
-    while r <= n {
+    for r in 1..=n {
         let first = first_of(o, r);
         let next = next_of(o, r);
-        let around = lower_of(outsides[r], place_of(set, r));
-        outsides[first] = lower_of(around, firsts[next]);
-        outsides[next] = lower_of(around, firsts[first]);
-        r += 1;
+        let around = outsides[r].min(place_of(set, r));
+        outsides[first] = around.min(firsts[next]);
+        outsides[next] = around.min(firsts[first]);
     }
     outsides
 }

@@ -2,7 +2,7 @@
 ghost use Rattle.diversity.specs.Diversity.{diversity, cost};
 ghost use Rattle.sheet.specs.Inner.{HasFirsts, Adds};
 
-use super::firsts::{higher_of, lower_of, opened_at};
+use super::firsts::opened_at;
 use super::outsides::outsides_of;
 use outline::fields::{branch_of, next_of, price_of};
 use outline::limits::NUMBERS;
@@ -15,11 +15,9 @@ pub fn quarters_of(o: &[u8], set: &[u8], firsts: &[usize; NUMBERS]) -> [u32; NUM
 {
     let n = o.len() / 16;
     let mut table = [0; NUMBERS];
-    let mut r = 1;
-    while r <= n {
+    for r in 1..=n {
         let at = opened_at(o, set, firsts, r);
         table[at] += price_of(o, r);
-        r += 1;
     }
     table
 }
@@ -32,13 +30,11 @@ pub fn diversity_of(o: &[u8], way: u32, set: &[u8], firsts: &[usize; NUMBERS]) -
     let n = o.len() / 16;
     let outsides = outsides_of(o, way, set, firsts);
     let mut table = [0; NUMBERS];
-    let mut r = 1;
-    while r <= n {
+    for r in 1..=n {
         let below = opened_at(o, set, firsts, r);
-        let elsewhere = lower_of(outsides[r], firsts[next_of(o, r)]);
-        let at = higher_of(below, elsewhere);
+        let elsewhere = outsides[r].min(firsts[next_of(o, r)]);
+        let at = below.max(elsewhere);
         table[at] += branch_of(o, r);
-        r += 1;
     }
     table
 }

@@ -27,11 +27,13 @@ pub fn list(
                 changed(&lent, 0, NUMBER)
             )
         }
-        Ok(Figures {
-            rows,
-            quarters,
-            diversity,
-        }) => {
+        Ok(
+            Figures {
+                rows,
+                quarters,
+                diversity,
+            },
+        ) => {
             print!(rt; ": 0 0 {rows} {quarters} {diversity}")?;
             let written = 3 * rows as usize;
             if rows <= MANY {

@@ -17,13 +17,12 @@ fn weight_of(o: &[u8], r: usize) -> u64
     requires weight_fits { weight o.now r < word_limit }
     ensures { result ≡ weight o.now r }
 {
+    let n = o.len() / 16;
     let mut w: u64 = 1;
-    let mut q = o.len() / 16;
-    while r < q {
+    for q in (r + 1..=n).rev() {
         if is_taxon(o, q) {
-            w = 2 * w;
+            w *= 2;
         }
-        q -= 1;
     }
     w
 }

@@ -91,9 +91,7 @@ fn answer(
 ) -> io::Result<()> {
     let mut lent = Buffers::new(rt.alloc(), bytes, numbers)?;
     match write(outline, &mut lent.text, &mut lent.pairs) {
-        Err(refusal) => {
-            println!(rt; ": {}, wrong {}", Refused(refusal), lent.wrong(0, 0))
-        }
+        Err(refusal) => { println!(rt; ": {}, wrong {}", Refused(refusal), lent.wrong(0, 0)) }
         Ok(Figures { bytes, pairs }) => {
             print!(rt; ": 0 0 {bytes} {pairs}")?;
             say_written(rt, outline, lent.written(bytes, pairs))?;

@@ -1,11 +1,7 @@
 -- `measures::locks::mark_locked` meets its contract: the marks of the records passed stand.
-use Rattle.std.proofs.Common.{◌-◌}
 use Rattle.lists.proofs.Buffers.{Rising}
 use Rattle.laws.specs.Locks.{locked_set}
 use Rattle.measures.proofs.locks.mark_locked.Given as goal
 
 abbrev pub invariant-loop-i : goal.invariant-loop-i
 invariant-loop-i l = Rising (locked_set l.o) l.initial.marks l.marks l.i
-
-abbrev pub decreases-loop-i : goal.decreases-loop-i
-decreases-loop-i l = l.n - l.i

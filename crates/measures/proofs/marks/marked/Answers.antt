@@ -1,14 +1,17 @@
-use Rattle.lists.proofs.Bools.{byte_one, one_le}
-use Rattle.lists.proofs.Walk.{summing_goes, summing_ends}
+-- `measures::marks::marked` meets its contract.
+use Rattle.std.proofs.Common.{arith, rules}
 use Rattle.outline.specs.Outline.{records}
 use Rattle.diversity.specs.Diversity.{chosen, chosen_taxa}
+use Rattle.measures.specs.Inner.{Marked}
 use Rattle.measures.proofs.Parts.{taxa_few}
 use Rattle.measures.proofs.marks.marked.Goals as goal
 
-pub loop-r-preserved : goal.loop-r-preserved
-unfolding chosen
-loop-r-preserved c = summing_goes _ _ c.loop-r.invariant c.loop-r-test.true (byte_one _) (rw (byte_one _) (one_le _))
+found : (c : goal.After-count) → Marked c.args.o.now c.args.marks.now c.count.result
+unfolding chosen chosen_taxa records
+found c = taxa_few c.requires (c.count.ensures (chosen c.args.marks.now) (λ r l u b p. search rules))
+
+pub overflow_cast-result : goal.overflow_cast-result
+overflow_cast-result c = record { fits = omega (arith, (found c).few) }
 
 pub returns : goal.returns
-unfolding chosen_taxa records
-returns c = taxa_few c.requires (summing_ends _ _ c.loop-r.invariant c.loop-r-test.false)
+returns c = found c

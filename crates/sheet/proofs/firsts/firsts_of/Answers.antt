@@ -13,4 +13,4 @@ loop-r-preserved c =
     let i : IsRecord c.args.o.now c.loop-r.r = record { low = omega arith; high = c.loop-r.invariant.most } in
     let rest = backwards_link c.loop-r.invariant _ (formed.linked.next_later _ i.low i.high) in
     backwards_goes c.loop-r.invariant i.low (omega (arith, i.high, formed.size_most))
-    (rw (c.lower_of.ensures, c.next_of.ensures) (first_step formed i _ c.opened_at-own.ensures rest))
+    (rw (c.min.ensures, c.next_of.ensures) (first_step formed i _ c.opened_at-own.ensures rest))

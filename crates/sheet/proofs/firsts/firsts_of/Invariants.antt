@@ -4,6 +4,3 @@ use Rattle.sheet.proofs.firsts.firsts_of.Given as goal
 
 abbrev pub invariant-loop-r : goal.invariant-loop-r
 invariant-loop-r l = Backwards l.o l.set l.r l.firsts
-
-abbrev pub decreases-loop-r : goal.decreases-loop-r
-decreases-loop-r l = l.r

@@ -1,10 +1,6 @@
 -- `sheet::outsides::outsides_of` meets its contract: the chains that a link of a record before r begins are known.
-use Rattle.std.proofs.Common.{◌+◌, ◌-◌}
 use Rattle.sheet.proofs.Along.{Onwards}
 use Rattle.sheet.proofs.outsides.outsides_of.Given as goal
 
 abbrev pub invariant-loop-r : goal.invariant-loop-r
 invariant-loop-r l = Onwards l.o l.way l.set l.r l.outsides
-
-abbrev pub decreases-loop-r : goal.decreases-loop-r
-decreases-loop-r l = l.n + 1 - l.r

@@ -10,10 +10,20 @@ loop-r-init c = adding_starts _ _ _
 pub loop-r-preserved : goal.loop-r-preserved
 loop-r-preserved c =
     let i : IsRecord c.args.o.now c.loop-r.r = record { low = c.loop-r.invariant.low; high = c.loop-r-test.true } in
-    let since = branch_at c.args.way c.requires c.outsides_of-outsides.ensures i c.next_of.ensures c.opened_at-below.ensures c.lower_of-elsewhere.ensures
-    c.higher_of-at.ensures in
+    let since = branch_at c.args.way c.requires c.outsides_of-outsides.ensures i c.next_of.ensures c.opened_at-below.ensures c.min-elsewhere.ensures
+    c.max-at.ensures in
     adding_goes _ _ _ c.loop-r.invariant i.high since c.branch_of.ensures
     (omega (arith, c.branch_of.ensures, (c.requires.base.formed.ranged _ i.low i.high).branch_most))
 
 pub returns : goal.returns
 returns c = diversity_end _ c.requires.base.formed.size_most c.loop-r.invariant c.loop-r-test.false
+
+-- after the last record
+pub returns-2 : goal.returns-2
+returns-2 c =
+    let i : IsRecord c.args.o.now c.loop-r.r = record { low = c.loop-r.invariant.low; high = c.loop-r-test.true } in
+    let since = branch_at c.args.way c.requires c.outsides_of-outsides.ensures i c.next_of.ensures c.opened_at-below.ensures c.min-elsewhere.ensures
+    c.max-at.ensures in
+    let last = adding_goes _ _ _ c.loop-r.invariant i.high since c.branch_of.ensures
+    (omega (arith, c.branch_of.ensures, (c.requires.base.formed.ranged _ i.low i.high).branch_most)) in
+    diversity_end _ c.requires.base.formed.size_most last (omega arith)

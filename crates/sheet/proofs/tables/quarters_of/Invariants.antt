@@ -1,5 +1,4 @@
 -- `sheet::tables::quarters_of` meets its contract: the prices of the records passed stand in the table.
-use Rattle.std.proofs.Common.{◌+◌, ◌-◌}
 use Rattle.outline.specs.Outline.{price}
 use Rattle.sheet.specs.Inner.{price_counts}
 use Rattle.sheet.proofs.Added.{Adding}
@@ -7,6 +6,3 @@ use Rattle.sheet.proofs.tables.quarters_of.Given as goal
 
 abbrev pub invariant-loop-r : goal.invariant-loop-r
 invariant-loop-r l = Adding (price l.o) (price_counts l.o l.set) l.n l.r l.table
-
-abbrev pub decreases-loop-r : goal.decreases-loop-r
-decreases-loop-r l = l.n + 1 - l.r

@@ -6,6 +6,3 @@ use Rattle.table.proofs.taxa.weight_of.Given as goal
 
 abbrev pub invariant-loop-q : goal.invariant-loop-q
 invariant-loop-q l = (l.r ≤ l.q) × (l.q ≤ size l.o) × (l.w ≡ weight l.o l.q)
-
-abbrev pub decreases-loop-q : goal.decreases-loop-q
-decreases-loop-q l = l.q
