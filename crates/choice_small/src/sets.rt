@@ -34,6 +34,7 @@ impl Tree {
         let mut under = [0; 130];
         // the taxa of a record and of the rest of its chain
         let mut chains = [0; 130];
+        // by number: links are numbers of records
         for r in (1..=outline.len).rev() {
             let mut taxa = chains.get(first_of(o, r)).copied().unwrap_or(0);
             if is_taxon(o, r) {
@@ -66,6 +67,7 @@ impl Tree {
     fn worth(&self, way: Way, set: u32) -> Worth {
         let o = self.outline.bytes();
         let (mut diversity, mut cost) = (0u32, 0u32);
+        // one loop for both sums: two chains would ask twice whether the record counts
         for r in 1..=self.outline.len {
             if set & self.under[r] != 0 {
                 cost = cost.wrapping_add(price_of(o, r));

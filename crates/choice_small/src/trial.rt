@@ -161,6 +161,7 @@ impl<R: Print> Trial<'_, R> {
         count: u32,
         bests: &[Option<Worth>],
     ) -> io::Result<()> {
+        // arrays: how long they are is part of what is compared
         let mut marks = [UNTOUCHED; 12];
         let mut curve = [UNTOUCHED as u32; 92];
         let mut work = [UNTOUCHED as u64; 2350];

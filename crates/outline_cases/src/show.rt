@@ -24,7 +24,7 @@ pub fn changed(rt: &impl Print, label: &str, r: usize, fields: [u32; 5]) -> io::
 // The record of a plate in an outline, read from the record itself. The label, if any, says what is special about the outline.
 pub fn find(rt: &impl Print, label: &str, o: &[u8], plate: u32) -> io::Result<()> {
     let found = outline::find(o, plate);
-    if found.len() == 0 {
+    if found.is_empty() {
         return println!(rt; "find {plate}{label}: empty");
     }
     if found.len() != 16 {

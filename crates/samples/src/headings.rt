@@ -6,6 +6,7 @@ impl Sample {
     // The same records, each group with this heading.
     pub fn headed(self, heading: u32) -> Self {
         let mut headed = self;
+        // by number: a record's fields are read and written by it
         for r in 1..=self.len {
             if !is_taxon(self.bytes(), r) {
                 headed = headed.with_price(r, heading);

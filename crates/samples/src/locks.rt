@@ -7,6 +7,7 @@ impl Sample {
     pub fn locked(self, taxa: u64) -> Self {
         let mut locked = self;
         let mut left = taxa;
+        // by number: a record's fields are read and written by it
         for r in 1..=self.len {
             if is_taxon(self.bytes(), r) {
                 if left % 2 == 1 {

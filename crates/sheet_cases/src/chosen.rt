@@ -7,6 +7,7 @@ use std::io;
 // Choosing both ways from an outline, and listing what is chosen. There are marks for 127 records.
 fn chosen(rt: &(impl Print + AllocGlobal), label: &str, o: &[u8], count: u32) -> io::Result<()> {
     for way in 0..2 {
+        // arrays: their sizes are the same in every call
         let mut marks = [170; 127];
         let mut curve = [0; 40];
         let mut work = [0; 1600];
