@@ -32,7 +32,7 @@ put_words l k s m fits =
           simp get_or-set_other;
     }
 
--- columns that a closure made, from left to right: one more, and all of them
+-- columns that a closure made, from left to right: one more
 module _ {post : Bor (List ℕ) → ℕ → Candidate → Type 0} {to lo : ℕ} {l m : List ℕ} where
   pub made_goes : {b : ℕ} {n : List ℕ} → Made post to lo b l m → lo ≤ b → (rows : Bor (List ℕ)) → rows.now ≡ m → {c : Candidate} → post rows b c
       → Put (to + b) (view c) m n → length n ≡ length m → Made post to lo (b + 1) l n
@@ -44,15 +44,6 @@ module _ {post : Bor (List ℕ) → ℕ → Candidate → Type 0} {to lo : ℕ} 
     others = record {
       long = len ∙ h.others.long;
       same = λ k g. p.same k (λ q. omega (arith, g (omega arith))) ∙ h.others.same k (λ q. omega (arith, g q));
-    };
-  }
-
-  pub made_ends : {b hi : ℕ} → Made post to lo b l m → hi ≤ b → (b ≡ lo) ⊎ (b ≤ hi) → Made post to lo hi l m
-  made_ends {b} {hi} h past inside = record {
-    made = λ k u v. h.made k u (omega arith);
-    others = record {
-      long = h.others.long;
-      same = λ k g. h.others.same k (λ q. ⊎_elim (λ (e : b ≡ lo). omega arith) (λ (e : b ≤ hi). omega (arith, g q)) inside);
     };
   }
 

@@ -9,7 +9,7 @@ ghost use Rattle.choice.specs.Inner.{ColumnOf, top_diversity, top_cost, Drawable
 use cells::candidate::Candidate;
 use table::best_at;
 
-// The cost of a column where no set fits.
+// The cost of a column where no set fits. The curve is lent through C, where a column is two numbers and not an `Option`.
 pub const BLANK_COST: u32 = 4294967295;
 
 // A column of the curve.
@@ -50,7 +50,7 @@ pub fn write_curve(work: &[u64], width: usize, locks: u64, curve: &mut [u32])
 }
 
 // How many quarters can go with the diversity unchanged: from the right end of the curve leftwards until the diversity drops or no
-// set fits.
+// set fits. Document 01 asks for this form, a loop that yields the lowest such column by `break`.
 pub fn spare_of(curve: &[u32], count: usize) -> usize
     requires { 2 * count < length curve.now }
     ensures { result ≡ columns_alike (level curve.now (diversity_at curve.now count)) count }
