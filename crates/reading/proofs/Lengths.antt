@@ -1,21 +1,17 @@
 -- The length after a part, by the tokens that follow.
-use Prim.Native.Nat.{ℕ, ◌≤◌}
-use mathlib.Core.Path.{◌≡◌, refl, sym, ap, subst, ◌∙◌}
-use mathlib.Core.List.{List}
+use Prim.Native.Nat.{ℕ}
+use mathlib.Core.Path.{◌≡◌, refl, ap, ◌∙◌}
+use mathlib.Core.List.{List, [], ◌∷◌}
 use native.Mathlib.Omega.{arith}
-use lib.ListN.{length}
+use Rattle.std.specs.Prelude.{Option, None, Some, MatchOption}
 use Rattle.newick.specs.Grammar.{part, Tree}
-use Rattle.newick.specs.Parsing.{failed, got, with_number, with_length}
-use Rattle.newick.specs.Inner.{before}
-use Rattle.reading.specs.Inner.{Passed, NumberRead, LengthRead, length_bad, length_read, Finished, finished_bad, finished_read}
-use Rattle.reading.specs.declared.cursor.Cursor.{Cursor}
-use Rattle.reading.specs.declared.part.Length.{Length}
-use Rattle.reading.specs.declared.part.Part.{Part}
+use Rattle.newick.specs.Inner.{Met, BeginsOtherwise}
+use Rattle.newick.specs.Parsing.{tokens_of, failed, got, with_number, with_length}
 use Rattle.newick.specs.declared.token.Token.{Token}
-use Rattle.reading.proofs.Meeting.{met_is, met_shows}
+use Rattle.reading.specs.Inner.{NoLength, LengthRead}
 
 -- ---- the number after a colon
-number_fails : (t : Token) → ((l : ℕ) → t ≡ Token.Number l → ⊥) → (f : ℕ → Tree part) (ts : List Token) → with_number f (before t ts) ≡ failed
+number_fails : (t : Token) → ((l : ℕ) → t ≡ Token.Number l → ⊥) → (f : ℕ → Tree part) (ts : List Token) → with_number f (t ∷ ts) ≡ failed
 unfolding with_number
 number_fails Token.Open o f ts = refl
 number_fails Token.Close o f ts = refl
@@ -24,55 +20,41 @@ number_fails Token.Colon o f ts = refl
 number_fails Token.Semicolon o f ts = refl
 number_fails (Token.Number l) o f ts = absurd (o l refl)
 number_fails Token.Other o f ts = refl
-number_fails Token.End o f ts = refl
 
-module _ {text : List ℕ} {from to : Cursor} {s : Token} (p : Passed text from to s) where
-  pub number_missing : ((l : ℕ) → s ≡ Token.Number l → ⊥) → NumberRead text from Length.Bad
-  number_missing o = length_bad (λ f. ap (with_number f) p.met.shows ∙ number_fails s o f p.met.later)
+pub number_nowhere : (text : List ℕ) → tokens_of text ≡ [] → NoLength with_number text
+unfolding with_number
+number_nowhere text e f = ap (with_number f) e
 
-  pub number_there : (l : ℕ) → s ≡ Token.Number l → NumberRead text from (Length.Read l to)
+module _ {text rest : List ℕ} {s : Token} (m : Met text s rest) where
+  pub number_missing : ((l : ℕ) → s ≡ Token.Number l → ⊥) → NoLength with_number text
+  number_missing o f = ap (with_number f) m.shows ∙ number_fails s o f (tokens_of rest)
+
+  pub number_there : (l : ℕ) → s ≡ Token.Number l → LengthRead with_number text l rest
   unfolding with_number
-  number_there l e =
-      let m = met_is (Token.Number l) p.met e in
-      length_read {to = to} (λ f. ap (with_number f) (met_shows (Token.Number l) p.met e (omega arith))) (omega (arith, m.moved)) m.within p.same
+  number_there l e = record { reads = λ f. ap (with_number f) (m.shows ∙ ap (λ t. t ∷ tokens_of rest) e); left = omega (arith, m.shorter) }
 
 -- ---- a colon and a length, or none
-pub no_colon : (t : Token) → (t ≡ Token.Colon → ⊥) → (f : ℕ → Tree part) (ts : List Token)
-    → with_length f (before t ts) ≡ got (f 0) (before t ts)
+no_colon : (ts : List Token) → ((later : List Token) → ts ≡ Token.Colon ∷ later → ⊥) → (f : ℕ → Tree part) → with_length f ts ≡ got (f 0) ts
 unfolding with_length
-no_colon Token.Open o f ts = refl
-no_colon Token.Close o f ts = refl
-no_colon Token.Comma o f ts = refl
-no_colon Token.Colon o f ts = absurd (o refl)
-no_colon Token.Semicolon o f ts = refl
-no_colon (Token.Number l) o f ts = refl
-no_colon Token.Other o f ts = refl
-no_colon Token.End o f ts = refl
+no_colon [] o f = refl
+no_colon (Token.Open ∷ ts) o f = refl
+no_colon (Token.Close ∷ ts) o f = refl
+no_colon (Token.Comma ∷ ts) o f = refl
+no_colon (Token.Colon ∷ ts) o f = absurd (o ts refl)
+no_colon (Token.Semicolon ∷ ts) o f = refl
+no_colon (Token.Number l ∷ ts) o f = refl
+no_colon (Token.Other ∷ ts) o f = refl
 
-module _ {text : List ℕ} {from to : Cursor} {s : Token} (p : Passed text from to s) where
-  pub length_none : from.at ≤ length text → (s ≡ Token.Colon → ⊥) → LengthRead text from (Length.Read 0 from)
-  length_none inside o =
-      let m = p.met in
-      length_read {to = from} (λ f. ap (with_length f) m.shows ∙ no_colon s o f m.later ∙ ap (got (f 0)) (sym m.shows)) (omega arith) inside refl
+pub length_missing : {text : List ℕ} → BeginsOtherwise text Token.Colon → LengthRead with_length text 0 text
+length_missing {text} o = record { reads = no_colon (tokens_of text) o; left = omega arith }
 
-  pub length_there : s ≡ Token.Colon → {r : Length} → NumberRead text to r → LengthRead text from r
+module _ {text rest : List ℕ} (m : Met text Token.Colon rest) where
+  colon_next : (f : ℕ → Tree part) → with_length f (tokens_of text) ≡ with_number f (tokens_of rest)
   unfolding with_length
-  length_there e (length_bad g) = length_bad (λ f. ap (with_length f) (met_shows Token.Colon p.met e (omega arith)) ∙ g f)
-  length_there e (length_read {to = after} g a b k) =
-      let m = met_is Token.Colon p.met e in
-      length_read {to = after} (λ f. ap (with_length f) (met_shows Token.Colon p.met e (omega arith)) ∙ g f) (omega (arith, m.moved)) b (k ∙ p.same)
+  colon_next f = ap (with_length f) m.shows
 
--- ---- a part with its length
-pub finish_bad : {text : List ℕ} {from : Cursor} {first plate : ℕ} {r : Length} → LengthRead text from r → r ≡ Length.Bad
-    → Finished text from first plate Part.Bad
-finish_bad {text} {from} {first} {plate} q e = go (subst (LengthRead text from) e q)
-  where
-    go : LengthRead text from Length.Bad → Finished text from first plate Part.Bad
-    go (length_bad g) = finished_bad g
-
-pub finish_read : {text : List ℕ} {from to : Cursor} {first plate l : ℕ} {r : Length} → LengthRead text from r → r ≡ Length.Read l to
-    → Finished text from first plate (Part.Read to first l plate)
-finish_read {text} {from} {to} {first} {plate} {l} q e = go (subst (LengthRead text from) e q)
-  where
-    go : LengthRead text from (Length.Read l to) → Finished text from first plate (Part.Read to first l plate)
-    go (length_read g a b k) = finished_read {to = to} g a b k
+  pub length_there : {X : Type 0} (o : Option X) (l : X → ℕ) (past : X → List ℕ)
+      → MatchOption o (NoLength with_number rest) (λ x. LengthRead with_number rest (l x) (past x))
+      → MatchOption o (NoLength with_length text) (λ x. LengthRead with_length text (l x) (past x))
+  length_there None l past g = λ f. colon_next f ∙ g f
+  length_there (Some x) l past g = record { reads = λ f. colon_next f ∙ g.reads f; left = omega (arith, g.left, m.shorter) }
