@@ -4,31 +4,35 @@ use mathlib.Core.Path.{◌≡◌, refl, sym, ap, ◌∙◌}
 use mathlib.Core.Bool.{Bool, true, false, not, false≢true}
 use mathlib.Core.List.{List, [], ◌∷◌}
 use Rattle.std.specs.Prelude.{Option, None, Some, is_some, MatchOption}
-use Rattle.newick.specs.Inner.{Met, BeginsOtherwise}
+use Rattle.newick.specs.Inner.{Met}
 use Rattle.newick.specs.Parsing.{tokens_of, nothing, ends}
 use Rattle.newick.specs.declared.token.Token.{Token}
 
-no_semicolon : (ts : List Token) → ((later : List Token) → ts ≡ Token.Semicolon ∷ later → ⊥) → false ≡ ends ts
+no_semicolon : (t : Token) → (t ≡ Token.Semicolon → ⊥) → (ts : List Token) → false ≡ ends (t ∷ ts)
 unfolding ends
-no_semicolon [] o = refl
-no_semicolon (Token.Open ∷ ts) o = refl
-no_semicolon (Token.Close ∷ ts) o = refl
-no_semicolon (Token.Comma ∷ ts) o = refl
-no_semicolon (Token.Colon ∷ ts) o = refl
-no_semicolon (Token.Semicolon ∷ ts) o = absurd (o ts refl)
-no_semicolon (Token.Number l ∷ ts) o = refl
-no_semicolon (Token.Other ∷ ts) o = refl
+no_semicolon Token.Open o ts = refl
+no_semicolon Token.Close o ts = refl
+no_semicolon Token.Comma o ts = refl
+no_semicolon Token.Colon o ts = refl
+no_semicolon Token.Semicolon o ts = absurd (o refl)
+no_semicolon (Token.Number l) o ts = refl
+no_semicolon Token.Other o ts = refl
 
-pub not_ended : (text : List ℕ) → BeginsOtherwise text Token.Semicolon → false ≡ ends (tokens_of text)
-not_ended text o = no_semicolon (tokens_of text) o
+pub not_ended : (t : Token) (rest : List ℕ) → (t ≡ Token.Semicolon → ⊥) → false ≡ ends (t ∷ tokens_of rest)
+not_ended t rest o = no_semicolon t o (tokens_of rest)
+
+-- a text that is left at its end has no tokens
+pub no_ends : {ts : List Token} → ts ≡ [] → false ≡ ends ts
+unfolding ends
+no_ends e = sym (ap ends e)
 
 -- a semicolon, and what is after it
-pub ended : {text rest : List ℕ} → Met text Token.Semicolon rest → {X : Type 0} (o : Option X) (t : X → Token) (past : X → List ℕ)
-    → MatchOption o (tokens_of rest ≡ []) (λ x. Met rest (t x) (past x)) → {v : Bool} → is_some o ≡ not v → v ≡ ends (tokens_of text)
+pub ended : {t : Token} (rest : List ℕ) → t ≡ Token.Semicolon → {X : Type 0} (o : Option X) (first : X → Token) (past : X → List ℕ)
+    → MatchOption o (tokens_of rest ≡ []) (λ x. Met rest (first x) (past x)) → {v : Bool} → is_some o ≡ not v → v ≡ ends (t ∷ tokens_of rest)
 unfolding ends
-ended {text} {rest} m {X} o t past g {v} h = go o g v h ∙ sym (ap ends m.shows)
+ended {t} rest e {X} o first past g {v} h = go o g v h ∙ sym (ap (λ u. ends (u ∷ tokens_of rest)) e)
   where
-    go : (o : Option X) → MatchOption o (tokens_of rest ≡ []) (λ x. Met rest (t x) (past x)) → (v : Bool) → is_some o ≡ not v
+    go : (o : Option X) → MatchOption o (tokens_of rest ≡ []) (λ x. Met rest (first x) (past x)) → (v : Bool) → is_some o ≡ not v
         → v ≡ nothing (tokens_of rest)
     go None g true h = sym (ap nothing g)
     go None g false h = absurd (false≢true h)

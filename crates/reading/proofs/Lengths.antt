@@ -34,7 +34,7 @@ module _ {text rest : List ℕ} {s : Token} (m : Met text s rest) where
   number_there l e = record { reads = λ f. ap (with_number f) (m.shows ∙ ap (λ t. t ∷ tokens_of rest) e); left = omega (arith, m.shorter) }
 
 -- ---- a colon and a length, or none
-no_colon : (ts : List Token) → ((later : List Token) → ts ≡ Token.Colon ∷ later → ⊥) → (f : ℕ → Tree part) → with_length f ts ≡ got (f 0) ts
+pub no_colon : (ts : List Token) → ((later : List Token) → ts ≡ Token.Colon ∷ later → ⊥) → (f : ℕ → Tree part) → with_length f ts ≡ got (f 0) ts
 unfolding with_length
 no_colon [] o f = refl
 no_colon (Token.Open ∷ ts) o f = refl

@@ -9,12 +9,14 @@ use native.Mathlib.Omega.{arith}
 use lib.ListN.{length}
 use Rattle.newick.specs.Grammar.{part, chain, Tree, taxon, group, last, more}
 use Rattle.newick.specs.Inner.{Met}
-use Rattle.newick.specs.Parsing.{tokens_of, Outcome, failed, got, with_length, grouped, part_from, joined, chain_then, chain_from, read_in}
+use Rattle.newick.specs.Parsing.{tokens_of, Outcome, failed, got, with_number, with_length, grouped, part_from, joined, chain_then, chain_from, read_in}
 use Rattle.newick.specs.Parsing.{ends, Parsed, unread, tree, closed, grown}
 use Rattle.newick.specs.declared.token.Token.{Token}
 use Rattle.reading.specs.Inner.{NoLength, LengthRead}
-use Rattle.reading.specs.Scan.{is_tree, grouped_as, Lists, no_list, a_list, Inside, Wanted, Taken, Leads}
+use Rattle.reading.specs.Scan.{is_tree, grouped_as, Lists, no_list, a_list, Inside, Wanted, Taken}
+use Rattle.reading.specs.Scan.{Short, short_failed, short_ended, Stopped, Followed, FromTaxon, FromPart}
 use Rattle.reading.specs.declared.place.Place.{Place}
+use Rattle.reading.proofs.Lengths.{no_colon}
 use Rattle.reading.proofs.Parts.{no_part, no_next}
 
 -- ---- open lists
@@ -37,18 +39,27 @@ list_step n ts h =
     let f : n - 1 ≡ suc (n - 2) = omega arith in
     ap (λ m. read_in m chain ts) e ∙ ap (λ m. chain_from (read_in (n - 1) chain) (read_in m part ts)) f
 
-module _ {whole : Parsed} {text : List ℕ} {d : ℕ} {o : Outcome part} (i : Inside whole text d o) where
+module _ {whole : Parsed} {n d : ℕ} {o : Outcome part} (i : Inside whole n d o) where
   inside_fails : o ≡ failed → is_tree whole ≡ false
   inside_fails e = ap is_tree (sym i.comes ∙ ap i.onward e ∙ lists_failed i.lists)
 
+  -- nor is there one where a part stops the text
+  inside_stops : Short o → is_tree whole ≡ false
+  inside_stops s = ap is_tree (sym i.comes) ∙ go s i.lists
+    where
+      go : {o : Outcome part} {d : ℕ} {onward : Outcome part → Parsed} → Short o → Lists n d onward → is_tree (onward o) ≡ false
+      go short_failed ls = ap is_tree (lists_failed ls)
+      go short_ended no_list = unfold ends in refl
+      go short_ended (a_list calls many made ls) = unfold chain_then in ap is_tree (lists_failed ls)
+
   -- what is read is read as well where less is left
-  inside_later : {rest : List ℕ} {u : Outcome part} → length rest ≤ length text → o ≡ u → Inside whole rest d u
+  inside_later : {m : ℕ} {u : Outcome part} → m ≤ n → o ≡ u → Inside whole m d u
   inside_later h e = record { onward = i.onward; lists = lists_fewer h i.lists; comes = ap i.onward (sym e) ∙ i.comes }
 
-  inside_list : {rest : List ℕ} (calls : ℕ) (made : Tree chain → ℕ → Tree part) → 2 * length text ≤ calls → length rest < length text
+  inside_list : {rest : List ℕ} (calls : ℕ) (made : Tree chain → ℕ → Tree part) → 2 * n ≤ calls → length rest < n
       → o ≡ grouped_as made (read_in calls chain (tokens_of rest)) → Wanted whole rest (d + 1)
   inside_list {rest} calls made many h e =
-      let j = inside_later {rest = rest} (omega arith) (e ∙ ap (grouped_as made) (list_step calls (tokens_of rest) (omega arith))) in
+      let j = inside_later {m = length rest} (omega arith) (e ∙ ap (grouped_as made) (list_step calls (tokens_of rest) (omega arith))) in
       record {
         calls = calls - 2;
         many = omega arith;
@@ -60,13 +71,51 @@ module _ {whole : Parsed} {text : List ℕ} {d : ℕ} {o : Outcome part} (i : In
             };
       }
 
--- a part is read but for its length
-module _ {whole : Parsed} {rest : List ℕ} {d : ℕ} (made : ℕ → Tree part) (i : Inside whole rest d (with_length made (tokens_of rest))) where
-  unfinished : NoLength with_length rest → is_tree whole ≡ false
-  unfinished g = inside_fails i (g made)
+-- ---- a part is read but for its length
 
-  finished : {l : ℕ} {past : List ℕ} → LengthRead with_length rest l past → Taken whole past d
-  finished {l} g = record { taken = made l; inside = inside_later i g.left (g.reads made) }
+module _ {whole : Parsed} (text : List ℕ) {d : ℕ} (made : ℕ → Tree part) (i : Inside whole (length text) d (with_length made (tokens_of text))) where
+  stopped : Stopped text → is_tree whole ≡ false
+  stopped g = inside_stops i (g made)
+
+  followed : {token : Token} {rest : List ℕ} → Followed text token rest → Taken whole token rest d
+  followed g = record { taken = made g.long; inside = inside_later i (omega (arith, g.shorter)) (g.reads made) }
+
+-- nothing follows
+pub stops_nowhere : (text : List ℕ) → tokens_of text ≡ [] → Stopped text
+unfolding with_length
+stops_nowhere text e made = subst Short (sym (ap (with_length made) e)) short_ended
+
+module _ {text rest : List ℕ} {s : Token} (m : Met text s rest) where
+  -- another token than a colon
+  pub follows_other : (s ≡ Token.Colon → ⊥) → Followed text s rest
+  follows_other o =
+      record {
+        long = 0;
+        reads = λ made. ap (with_length made) m.shows ∙ no_colon (s ∷ tokens_of rest) (λ later e. o cc) made;
+        shorter = m.shorter;
+      }
+
+  -- a colon, and no length or one
+  module _ (e : s ≡ Token.Colon) where
+    at_colon : (made : ℕ → Tree part) → with_length made (tokens_of text) ≡ with_number made (tokens_of rest)
+    unfolding with_length
+    at_colon made = ap (with_length made) (m.shows ∙ ap (λ t. t ∷ tokens_of rest) e)
+
+    pub colon_stops : NoLength with_number rest → Stopped text
+    colon_stops g made = subst Short (sym (at_colon made ∙ g made)) short_failed
+
+    module _ {l : ℕ} {past : List ℕ} (g : LengthRead with_number rest l past) where
+      -- and nothing follows the length, or a token
+      pub colon_follows : {X : Type 0} (o : Option X) (token : X → Token) (left : X → List ℕ)
+          → MatchOption o (tokens_of past ≡ []) (λ x. Met past (token x) (left x))
+          → MatchOption o (Stopped text) (λ x. Followed text (token x) (left x))
+      colon_follows None token left z = λ made. subst Short (sym (at_colon made ∙ g.reads made ∙ ap (got (made l)) z)) short_ended
+      colon_follows (Some x) token left n =
+          record {
+            long = l;
+            reads = λ made. at_colon made ∙ g.reads made ∙ ap (got (made l)) n.shows;
+            shorter = omega (arith, m.shorter, g.left, n.shorter);
+          }
 
 -- ---- a part is wanted
 
@@ -94,37 +143,37 @@ module _ {whole : Parsed} {text : List ℕ} {depth : ℕ} (k : Wanted whole text
     wanted_opens e = inside_list k.inside k.calls group k.many m.shorter (shown Token.Open e ∙ grouped_as_lem (reader (tokens_of rest)))
 
     module _ {v : ℕ} (e : s ≡ Token.Number v) where
-      taxon_inside : Inside whole rest depth (with_length (taxon v) (tokens_of rest))
+      taxon_inside : Inside whole (length rest) depth (with_length (taxon v) (tokens_of rest))
       unfolding part_from
       taxon_inside = inside_later k.inside (omega (arith, m.shorter)) (shown (Token.Number v) e)
 
-      pub taxon_unfinished : NoLength with_length rest → is_tree whole ≡ false
-      taxon_unfinished = unfinished (taxon v) taxon_inside
+      pub taxon_stops : Stopped rest → is_tree whole ≡ false
+      taxon_stops = stopped rest (taxon v) taxon_inside
 
-      pub taxon_taken : {l : ℕ} {past : List ℕ} → LengthRead with_length rest l past → Taken whole past depth
-      taxon_taken = finished (taxon v) taxon_inside
+      pub taxon_taken : {token : Token} {past : List ℕ} → Followed rest token past → Taken whole token past depth
+      taxon_taken = followed rest (taxon v) taxon_inside
 
 -- lists open, one after the other
-pub record Descending (from : Place) (text : List ℕ) (depth : ℕ) : Type 0 where
-  pub wanted : (whole : Parsed) → Wanted whole from.rest.now from.depth → Wanted whole text depth
-  pub left : length text ≤ length from.rest.now
-  pub deep : depth + length text ≤ from.depth + length from.rest.now
+pub record Descending (start : List ℕ) (outer : ℕ) (text : List ℕ) (depth : ℕ) : Type 0 where
+  pub wanted : (whole : Parsed) → Wanted whole start outer → Wanted whole text depth
+  pub left : length text ≤ length start
+  pub deep : depth + length text ≤ outer + length start
 
-pub descending_starts : (from : Place) → Descending from from.rest.now from.depth
-descending_starts from = record { wanted = λ _ w. w; left = omega arith; deep = omega arith }
+pub descending_starts : (start : List ℕ) (outer : ℕ) → Descending start outer start outer
+descending_starts start outer = record { wanted = λ _ w. w; left = omega arith; deep = omega arith }
 
-module _ {from : Place} {text : List ℕ} {depth : ℕ} (d : Descending from text depth) where
-  leads_nowhere : ((whole : Parsed) → Wanted whole text depth → is_tree whole ≡ false) → Leads Wanted from None
+module _ {start : List ℕ} {outer : ℕ} {text : List ℕ} {depth : ℕ} (d : Descending start outer text depth) where
+  leads_nowhere : ((whole : Parsed) → Wanted whole text depth → is_tree whole ≡ false) → FromTaxon start outer None
   leads_nowhere f = record { taken = λ whole w. f whole (d.wanted whole w); shorter = tt }
 
-  pub descending_ends : tokens_of text ≡ [] → Leads Wanted from None
+  pub descending_ends : tokens_of text ≡ [] → FromTaxon start outer None
   descending_ends e = leads_nowhere (λ _ w. wanted_nowhere w e)
 
   module _ {rest : List ℕ} {s : Token} (m : Met text s rest) where
-    pub descending_fails : (s ≡ Token.Open → ⊥) → ((q : ℕ) → s ≡ Token.Number q → ⊥) → Leads Wanted from None
+    pub descending_fails : (s ≡ Token.Open → ⊥) → ((q : ℕ) → s ≡ Token.Number q → ⊥) → FromTaxon start outer None
     descending_fails o v = leads_nowhere (λ _ w. wanted_fails w m o v)
 
-    pub descending_goes : s ≡ Token.Open → Descending from rest (depth + 1)
+    pub descending_goes : s ≡ Token.Open → Descending start outer rest (depth + 1)
     descending_goes e =
         record {
           wanted = λ whole w. wanted_opens (d.wanted whole w) m e;
@@ -133,14 +182,14 @@ module _ {from : Place} {text : List ℕ} {depth : ℕ} (d : Descending from tex
         }
 
     module _ {v : ℕ} (e : s ≡ Token.Number v) where
-      pub descending_unfinished : NoLength with_length rest → Leads Wanted from None
-      descending_unfinished g = leads_nowhere (λ _ w. taxon_unfinished w m e g)
+      pub descending_stops : Stopped rest → FromTaxon start outer None
+      descending_stops g = leads_nowhere (λ _ w. taxon_stops w m e g)
 
-      pub descending_taken : {l : ℕ} {to : Place} → LengthRead with_length rest l to.rest.now → to.depth ≡ depth → Leads Wanted from (Some to)
-      descending_taken {to = to} g z =
+      pub descending_taken : {to : Place} → Followed rest to.token to.rest.now → to.depth ≡ depth → FromTaxon start outer (Some to)
+      descending_taken g z =
           record {
             taken = λ whole w. rw z (taxon_taken (d.wanted whole w) m e g);
-            shorter = omega (arith, m.shorter, d.left, g.left);
+            shorter = omega (arith, m.shorter, d.left, g.shorter);
           }
 
 -- ---- a part is taken
@@ -151,112 +200,84 @@ joined_as made t failed = refl
 joined_as made t (got ms ts) = refl
 
 -- in a list, by what follows the part
-record Listed (whole : Parsed) (text : List ℕ) (depth : ℕ) : Type 0 where
+record Listed (whole : Parsed) (n depth : ℕ) (ts : List Token) : Type 0 where
   calls : ℕ
-  many : 2 * length text ≤ calls
+  many : 2 * n ≤ calls
   made : Tree chain → ℕ → Tree part
   taken : Tree part
-  inside : Inside whole text (depth - 1) (grouped_as made (chain_then (read_in calls chain) taken (tokens_of text)))
+  inside : Inside whole n (depth - 1) (grouped_as made (chain_then (read_in calls chain) taken ts))
 
-listed : {whole : Parsed} {text : List ℕ} {depth : ℕ} → Taken whole text depth → 0 < depth → Listed whole text depth
-listed {whole} {text} k h = go k.inside.lists h k.inside.comes
-  where
-    go : {d : ℕ} {onward : Outcome part → Parsed} → Lists (length text) d onward → 0 < d
-        → onward (got k.taken (tokens_of text)) ≡ whole → Listed whole text d
-    go no_list h e = absurd (omega arith)
-    go (a_list {d = d} {onward = onward} calls many made ls) h e =
-        let same : d ≡ d + 1 - 1 = omega arith in
-        record {
-          calls = calls;
-          many = many;
-          made = made;
-          taken = k.taken;
-          inside = record { onward = onward; lists = subst (λ n. Lists (length text) n onward) same ls; comes = e };
-        }
+module _ {whole : Parsed} {token : Token} {rest : List ℕ} {depth : ℕ} (k : Taken whole token rest depth) where
+  listed : 0 < depth → Listed whole (length rest + 1) depth (token ∷ tokens_of rest)
+  listed h = go k.inside.lists h k.inside.comes
+    where
+      go : {d : ℕ} {onward : Outcome part → Parsed} → Lists (length rest + 1) d onward → 0 < d
+          → onward (got k.taken (token ∷ tokens_of rest)) ≡ whole → Listed whole (length rest + 1) d (token ∷ tokens_of rest)
+      go no_list h e = absurd (omega arith)
+      go (a_list {d = d} {onward = onward} calls many made ls) h e =
+          let same : d ≡ d + 1 - 1 = omega arith in
+          record {
+            calls = calls;
+            many = many;
+            made = made;
+            taken = k.taken;
+            inside = record { onward = onward; lists = subst (λ m. Lists (length rest + 1) m onward) same ls; comes = e };
+          }
 
-module _ {whole : Parsed} {text : List ℕ} {depth : ℕ} (taken : Taken whole text depth) (some : 0 < depth) where
-  abbrev k : Listed whole text depth
-  k = listed taken some
+  module _ (some : 0 < depth) where
+    abbrev l : Listed whole (length rest + 1) depth (token ∷ tokens_of rest)
+    l = listed some
 
-  abbrev follows : List Token → Outcome part
-  follows ts = grouped_as k.made (chain_then (read_in k.calls chain) k.taken ts)
+    list_strays : (token ≡ Token.Comma → ⊥) → (token ≡ Token.Close → ⊥) → is_tree whole ≡ false
+    list_strays a o = inside_fails l.inside (ap (grouped_as l.made) (no_next token a o (read_in l.calls chain) l.taken (tokens_of rest)))
 
-  pub list_stops : tokens_of text ≡ [] → is_tree whole ≡ false
-  unfolding chain_then
-  list_stops e = inside_fails k.inside (ap follows e)
+    shows : (t : Token) → token ≡ t
+        → grouped_as l.made (chain_then (read_in l.calls chain) l.taken (token ∷ tokens_of rest))
+        ≡ grouped_as l.made (chain_then (read_in l.calls chain) l.taken (t ∷ tokens_of rest))
+    shows t e = ap (λ u. grouped_as l.made (chain_then (read_in l.calls chain) l.taken (u ∷ tokens_of rest))) e
 
-  module _ {rest : List ℕ} {s : Token} (m : Met text s rest) where
-    pub list_strays : (s ≡ Token.Comma → ⊥) → (s ≡ Token.Close → ⊥) → is_tree whole ≡ false
-    list_strays a o =
-        inside_fails k.inside
-        (ap follows m.shows ∙ ap (grouped_as k.made) (no_next s a o (read_in k.calls chain) k.taken (tokens_of rest)))
-
-    followed : (t : Token) → s ≡ t → follows (tokens_of text) ≡ follows (t ∷ tokens_of rest)
-    followed t e = ap follows (m.shows ∙ ap (λ u. u ∷ tokens_of rest) e)
-
-    pub list_wants : s ≡ Token.Comma → Wanted whole rest depth
+    list_wants : token ≡ Token.Comma → Wanted whole rest depth
     unfolding chain_then
     list_wants e =
         let same : depth - 1 + 1 ≡ depth = omega arith in
         subst (Wanted whole rest) same
-        (inside_list k.inside k.calls (λ ms. k.made (more k.taken ms)) k.many m.shorter
-        (followed Token.Comma e ∙ joined_as k.made k.taken (read_in k.calls chain (tokens_of rest))))
+        (inside_list l.inside l.calls (λ ms. l.made (more l.taken ms)) l.many (omega arith)
+        (shows Token.Comma e ∙ joined_as l.made l.taken (read_in l.calls chain (tokens_of rest))))
 
-    module _ (e : s ≡ Token.Close) where
-      list_inside : Inside whole rest (depth - 1) (with_length (k.made (last k.taken)) (tokens_of rest))
-      unfolding chain_then
-      list_inside = inside_later k.inside (omega (arith, m.shorter)) (followed Token.Close e)
-
-      pub list_unfinished : NoLength with_length rest → is_tree whole ≡ false
-      list_unfinished = unfinished (k.made (last k.taken)) list_inside
-
-      pub list_taken : {l : ℕ} {past : List ℕ} → LengthRead with_length rest l past → Taken whole past (depth - 1)
-      list_taken = finished (k.made (last k.taken)) list_inside
+    list_inside : token ≡ Token.Close → Inside whole (length rest) (depth - 1) (with_length (l.made (last l.taken)) (tokens_of rest))
+    unfolding chain_then
+    list_inside e = inside_later l.inside (omega arith) (shows Token.Close e)
 
 -- onward in a list
 module _ {from : Place} (some : 0 < from.depth) where
-  goes_nowhere : ((whole : Parsed) → Taken whole from.rest.now from.depth → is_tree whole ≡ false) → Leads Taken from None
+  goes_nowhere : ((whole : Parsed) → Taken whole from.token from.rest.now from.depth → is_tree whole ≡ false) → FromPart from None
   goes_nowhere f = record { taken = f; shorter = tt }
 
-  pub onward_ends : tokens_of from.rest.now ≡ [] → Leads Taken from None
-  onward_ends e = goes_nowhere (λ _ w. list_stops w some e)
+  pub onward_fails : (from.token ≡ Token.Comma → ⊥) → (from.token ≡ Token.Close → ⊥) → FromPart from None
+  onward_fails a o = goes_nowhere (λ _ w. list_strays w some a o)
 
-  module _ {rest : List ℕ} {s : Token} (m : Met from.rest.now s rest) where
-    pub onward_fails : (s ≡ Token.Comma → ⊥) → (s ≡ Token.Close → ⊥) → Leads Taken from None
-    onward_fails a o = goes_nowhere (λ _ w. list_strays w some m a o)
+  pub onward_goes : from.token ≡ Token.Comma → {to : Option Place} → FromTaxon from.rest.now from.depth to → FromPart from to
+  onward_goes e l = record { taken = λ whole w. l.taken whole (list_wants w some e); shorter = l.shorter }
 
-    pub onward_goes : s ≡ Token.Comma → {at : Place} {to : Option Place} → Leads Wanted at to → at.rest.now ≡ rest → at.depth ≡ from.depth
-        → Leads Taken from to
-    onward_goes e {at} {to} l r z =
-        record {
-          taken = λ whole w. l.taken whole (rw (r, z) (list_wants w some m e));
-          shorter = shorter to l.shorter;
-        }
-      where
-        shorter : (to : Option Place) → MatchOption to (Unit {0}) (λ p. length p.rest.now < length at.rest.now)
-            → MatchOption to (Unit {0}) (λ p. length p.rest.now < length from.rest.now)
-        shorter None h = tt
-        shorter (Some p) h = omega (arith, m.shorter, ap length r)
+  module _ (e : from.token ≡ Token.Close) where
+    pub onward_stops : Stopped from.rest.now → FromPart from None
+    onward_stops g = goes_nowhere (λ _ w. stopped _ _ (list_inside w some e) g)
 
-    module _ (e : s ≡ Token.Close) where
-      pub onward_unfinished : NoLength with_length rest → Leads Taken from None
-      onward_unfinished g = goes_nowhere (λ _ w. list_unfinished w some m e g)
-
-      pub onward_taken : {l : ℕ} {to : Place} → LengthRead with_length rest l to.rest.now → to.depth ≡ from.depth - 1 → Leads Taken from (Some to)
-      onward_taken {to = to} g z =
-          record { taken = λ whole w. rw z (list_taken w some m e g); shorter = omega (arith, m.shorter, g.left) }
+    pub onward_taken : {to : Place} → Followed from.rest.now to.token to.rest.now → to.depth ≡ from.depth - 1 → FromPart from (Some to)
+    onward_taken g z = record { taken = λ whole w. rw z (followed _ _ (list_inside w some e) g); shorter = g.shorter }
 
 -- a part in no list is the tree, if a semicolon ends it
 is_either : (b : Bool) (t : Tree part) → is_tree (if b then tree t else unread) ≡ b
 is_either true t = refl
 is_either false t = refl
 
-pub outermost : {whole : Parsed} {text : List ℕ} {depth : ℕ} → Taken whole text depth → depth ≡ 0 → is_tree whole ≡ ends (tokens_of text)
-outermost {whole} {text} k z = go k.inside.lists z k.inside.comes
+pub outermost : {whole : Parsed} {token : Token} {rest : List ℕ} {depth : ℕ} → Taken whole token rest depth → depth ≡ 0
+    → is_tree whole ≡ ends (token ∷ tokens_of rest)
+outermost {whole} {token} {rest} k z = go k.inside.lists z k.inside.comes
   where
-    go : {d : ℕ} {onward : Outcome part → Parsed} → Lists (length text) d onward → d ≡ 0
-        → onward (got k.taken (tokens_of text)) ≡ whole → is_tree whole ≡ ends (tokens_of text)
-    go no_list z e = ap is_tree (sym e) ∙ is_either (ends (tokens_of text)) k.taken
+    go : {d : ℕ} {onward : Outcome part → Parsed} → Lists (length rest + 1) d onward → d ≡ 0
+        → onward (got k.taken (token ∷ tokens_of rest)) ≡ whole → is_tree whole ≡ ends (token ∷ tokens_of rest)
+    go no_list z e = ap is_tree (sym e) ∙ is_either (ends (token ∷ tokens_of rest)) k.taken
     go (a_list calls many made ls) z e = absurd (omega arith)
 
 -- ---- a text

@@ -1,7 +1,8 @@
 -- Going through a text once: what is left of the reading, inside of open lists.
-use Rattle.std.specs.Prelude.{ℕ, ◌+◌, ◌*◌, ◌≤◌, ◌<◌, ◌≡◌, Bool, true, false, List, length, Option, MatchOption}
+use Rattle.std.specs.Prelude.{ℕ, ◌+◌, ◌*◌, ◌≤◌, ◌<◌, ◌≡◌, Bool, true, false, List, [], ◌∷◌, length, Option, MatchOption}
 use Rattle.newick.specs.Grammar.{part, chain, Tree}
 use Rattle.newick.specs.Parsing.{tokens_of, Outcome, failed, got, with_length, part_from, chain_from, read_in, Parsed, unread, tree, closed}
+use Rattle.newick.specs.declared.token.Token.{Token}
 use Rattle.reading.specs.declared.place.Place.{Place}
 
 -- a tree is there
@@ -21,28 +22,47 @@ pub data Lists (n : ℕ) : ℕ → (Outcome part → Parsed) → Type 0 where
   a_list : {d : ℕ} {onward : Outcome part → Parsed} (calls : ℕ) → 2 * n ≤ calls → (made : Tree chain → ℕ → Tree part) → Lists n d onward
       → Lists n (d + 1) (λ o. onward (grouped_as made (chain_from (read_in calls chain) o)))
 
--- a place inside of so many open lists, and what comes of a text if this is read there
-pub record Inside (whole : Parsed) (text : List ℕ) (depth : ℕ) (o : Outcome part) : Type 0 where
+-- a place inside of so many open lists, with so many bytes left, and what comes of a text if this is read there
+pub record Inside (whole : Parsed) (n depth : ℕ) (o : Outcome part) : Type 0 where
   pub onward : Outcome part → Parsed
-  pub lists : Lists (length text) depth onward
+  pub lists : Lists n depth onward
   pub comes : onward o ≡ whole
 
 -- a part is wanted there
 pub record Wanted (whole : Parsed) (text : List ℕ) (depth : ℕ) : Type 0 where
   pub calls : ℕ
   pub many : 2 * length text ≤ calls
-  pub inside : Inside whole text depth (part_from (read_in calls chain) (tokens_of text))
+  pub inside : Inside whole (length text) depth (part_from (read_in calls chain) (tokens_of text))
 
--- a part is taken before it, with its length
-pub record Taken (whole : Parsed) (text : List ℕ) (depth : ℕ) : Type 0 where
+-- a part is taken there with its length: this token follows, with this after it
+pub record Taken (whole : Parsed) (token : Token) (rest : List ℕ) (depth : ℕ) : Type 0 where
   pub taken : Tree part
-  pub inside : Inside whole text depth (got taken (tokens_of text))
+  pub inside : Inside whole (length rest + 1) depth (got taken (token ∷ tokens_of rest))
 
--- a part is taken from a place on, or there is no tree
-abbrev pub TakenFrom : Parsed → Option Place → Type 0
-TakenFrom whole o = MatchOption o (is_tree whole ≡ false) (λ p. Taken whole p.rest.now p.depth)
+-- a part cannot be all: its length fails, or nothing follows it
+pub data Short : Outcome part → Type 0 where
+  short_failed : Short failed
+  short_ended : {t : Tree part} → Short (got t [])
 
--- from a place where something holds of whatever comes of the whole text a part is taken, and the text gets shorter
-pub record Leads (Before : Parsed → List ℕ → ℕ → Type 0) (from : Place) (to : Option Place) : Type 0 where
-  pub taken : (whole : Parsed) → Before whole from.rest.now from.depth → TakenFrom whole to
+abbrev pub Stopped : List ℕ → Type 0
+Stopped text = (made : ℕ → Tree part) → Short (with_length made (tokens_of text))
+
+-- or it has a length, and a token follows
+pub record Followed (text : List ℕ) (token : Token) (rest : List ℕ) : Type 0 where
+  pub long : ℕ
+  pub reads : (made : ℕ → Tree part) → with_length made (tokens_of text) ≡ got (made long) (token ∷ tokens_of rest)
+  pub shorter : length rest < length text
+
+-- whatever comes of the whole text, a part is taken there, or there is no tree
+abbrev pub TakenAt : Parsed → Option Place → Type 0
+TakenAt whole to = MatchOption to (is_tree whole ≡ false) (λ p. Taken whole p.token p.rest.now p.depth)
+
+-- so it is from where a part is wanted, and the text gets shorter
+pub record FromTaxon (text : List ℕ) (depth : ℕ) (to : Option Place) : Type 0 where
+  pub taken : (whole : Parsed) → Wanted whole text depth → TakenAt whole to
+  pub shorter : MatchOption to (Unit {0}) (λ p. length p.rest.now < length text)
+
+-- and from where one is taken in a list
+pub record FromPart (from : Place) (to : Option Place) : Type 0 where
+  pub taken : (whole : Parsed) → Taken whole from.token from.rest.now from.depth → TakenAt whole to
   pub shorter : MatchOption to (Unit {0}) (λ p. length p.rest.now < length from.rest.now)

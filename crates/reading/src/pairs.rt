@@ -30,7 +30,11 @@ pub fn price_in(pairs: &[u32], plate: u32) -> u32
 fn pairs_of(pairs: &[u32], plate: u32) -> usize
     ensures { result ≡ pairs_of pairs.now plate }
 {
-    by_two(pairs).iter().filter(|pair| pair[0] == plate).count()
+    // without a branch: `filter` and `count` take longer
+    by_two(pairs)
+        .iter()
+        .map(|pair| (pair[0] == plate) as usize)
+        .sum()
 }
 
 // Whether record r is a taxon without exactly one pair.

@@ -2,6 +2,7 @@
 ghost use Rattle.std.specs.Prelude.{MatchOption};
 ghost use Rattle.newick.specs.Parsing.{with_number, with_length};
 ghost use Rattle.reading.specs.Inner.{NoLength, LengthRead};
+ghost use Rattle.reading.specs.Scan.{Stopped, Followed};
 
 use super::draft::{Draft, Part};
 use super::flaw::Flaw;
@@ -19,12 +20,26 @@ fn number_after(text: &[u8]) -> Option<(u32, &[u8])>
 }
 
 // A colon and a length, and what is left after them; without a colon the length is 0.
-pub fn length_at(text: &[u8]) -> Option<(u32, &[u8])>
+fn length_at(text: &[u8]) -> Option<(u32, &[u8])>
     ensures { MatchOption result (NoLength with_length text.now) (λ read. LengthRead with_length text.now read.0 read.1.now) }
 {
     match strip_token(text, Token::Colon) {
         Some(rest) => number_after(rest),
         None => Some((0, text)),
+    }
+}
+
+// The token that follows a part, past the length between them if there is one, and what is left after it.
+pub fn follow(text: &[u8]) -> Option<(Token, &[u8])>
+    ensures { MatchOption result (Stopped text.now) (λ next. Followed text.now next.0 next.1.now) }
+{
+    let (token, rest) = first_token(text)?;
+    match token {
+        Token::Colon => {
+            let (_, rest) = number_after(rest)?;
+            first_token(rest)
+        }
+        _ => Some((token, rest)),
     }
 }
 

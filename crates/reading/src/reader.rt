@@ -9,6 +9,7 @@ use super::draft::Draft;
 use super::flaw::Flaw;
 use super::pairs::bad_pairs;
 use super::scan::{ends, is_tree};
+use newick::token::first_token;
 use outline::checker::check_records;
 use refusals::verdict::{Refusal, Verdict};
 use text::put_text;
@@ -21,7 +22,8 @@ fn draft_tree<'a>(text: &[u8], pairs: &'a [u32]) -> Result<Draft<'a>, Flaw>
 {
     let mut draft = Draft::new(pairs);
     let (part, rest) = draft.read_part(text)?;
-    if !ends(rest) {
+    let (token, rest) = first_token(rest).ok_or(Flaw::Malformed)?;
+    if !ends(token, rest) {
         return Err(Flaw::Malformed);
     }
     draft.draft_record(0, 0, part);

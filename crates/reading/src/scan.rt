@@ -1,39 +1,38 @@
 // Whether a text is a tree, and what ends it.
-ghost use Rattle.std.specs.Prelude.{◌≡◌, false, MatchOption};
+ghost use Rattle.std.specs.Prelude.{◌≡◌, false, ◌∷◌, MatchOption};
 ghost use Rattle.newick.specs.Parsing.{tokens_of, ends, grown};
 ghost use Rattle.reading.specs.Scan.{is_tree};
 
 use super::place::Place;
-use newick::token::{Token, first_token, strip_token};
+use newick::token::{Token, first_token};
 
-// Whether a semicolon comes next, and nothing but blanks after it.
-pub fn ends(text: &[u8]) -> bool
-    ensures { result ≡ ends (tokens_of text.now) }
+// Whether a token is the semicolon, and nothing but blanks is left after it.
+pub fn ends(token: Token, rest: &[u8]) -> bool
+    ensures { result ≡ ends (token ∷ tokens_of rest.now) }
 {
-    match strip_token(text, Token::Semicolon) {
-        Some(rest) => first_token(rest).is_none(),
-        None => false,
+    match token {
+        Token::Semicolon => first_token(rest).is_none(),
+        _ => false,
     }
 }
 
-// What is left of a text after the part that it begins with.
-fn past_part(text: &[u8]) -> Option<&[u8]>
-    ensures { MatchOption result (is_tree (grown text.now) ≡ false) (λ rest. is_tree (grown text.now) ≡ ends (tokens_of rest.now)) }
+// The place after the part that a text begins with.
+fn past_part(text: &[u8]) -> Option<Place<'_>>
+    ensures { MatchOption result (is_tree (grown text.now) ≡ false) (λ p. is_tree (grown text.now) ≡ ends (p.token ∷ tokens_of p.rest.now)) }
 {
-    let start = Place {
-        rest: text,
-        depth: 0,
-    };
-    let mut place = start.past_taxon()?;
+    let mut place = Place::past_taxon(text, 0)?;
     while place.depth > 0 {
         place = place.onward()?;
     }
-    Some(place.rest)
+    Some(place)
 }
 
 // Whether a text is a tree.
 pub fn is_tree(text: &[u8]) -> bool
     ensures { result ≡ is_tree (grown text.now) }
 {
-    past_part(text).is_some_and(ends)
+    match past_part(text) {
+        Some(place) => ends(place.token, place.rest),
+        None => false,
+    }
 }

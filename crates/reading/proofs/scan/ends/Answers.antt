@@ -2,8 +2,8 @@
 use Rattle.reading.proofs.Endings.{ended, not_ended}
 use Rattle.reading.proofs.scan.ends.Goals as goal
 
-pub returns-in-Some : goal.returns-in-Some
-returns-in-Some c = ended c.in-Some.ensures _ (λ read. read.0) (λ read. read.1.now) c.first_token.ensures c.is_none.ensures
+pub returns-in-Semicolon : goal.returns-in-Semicolon
+returns-in-Semicolon c = ended _ c.in-Semicolon.is _ (λ next. next.0) (λ next. next.1.now) c.first_token.ensures c.is_none.ensures
 
-pub returns-in-None : goal.returns-in-None
-returns-in-None c = not_ended _ c.in-None.ensures
+pub returns-in_default : goal.returns-in_default
+returns-in_default c = not_ended _ _ c.in_default.not-Semicolon

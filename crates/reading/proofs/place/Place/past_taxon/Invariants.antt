@@ -4,7 +4,7 @@ use Rattle.reading.proofs.Scanning.{Descending}
 use Rattle.reading.proofs.place.Place.past_taxon.Given as goal
 
 abbrev pub invariant-loop-token : goal.invariant-loop-token
-invariant-loop-token l = Descending l.fn.self l.rest l.depth
+invariant-loop-token l = Descending l.fn.text l.fn.depth l.text l.depth
 
 abbrev pub decreases-loop-token : goal.decreases-loop-token
-decreases-loop-token l = length l.rest
+decreases-loop-token l = length l.text
