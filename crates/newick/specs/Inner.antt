@@ -29,10 +29,6 @@ pub record Met (text : List ℕ) (token : Token) (rest : List ℕ) : Type 0 wher
   pub shows : tokens_of text ≡ token ∷ tokens_of rest
   pub shorter : length rest < length text
 
--- a token is not the first of a text
-abbrev pub BeginsOtherwise : List ℕ → Token → Type 0
-BeginsOtherwise text token = (later : List Token) → tokens_of text ≡ token ∷ later → ⊥
-
 -- ---- plates
 
 -- the plates of the taxa among records

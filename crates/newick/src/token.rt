@@ -3,7 +3,7 @@ ghost use Rattle.std.specs.Prelude.{◌≡◌, ◌≤◌, [], length, MatchOptio
 ghost use Rattle.std.specs.Char.{is_ascii_digit};
 ghost use Rattle.std.specs.List.{prefix_len};
 ghost use Rattle.newick.specs.Parsing.{tokens_of};
-ghost use Rattle.newick.specs.Inner.{Met, BeginsNumber, BeginsOtherwise};
+ghost use Rattle.newick.specs.Inner.{Met, BeginsNumber};
 
 use super::sign::Sign;
 
@@ -80,12 +80,4 @@ pub fn first_token(text: &[u8]) -> Option<(Token, &[u8])>
         }
     }
     None
-}
-
-// What is left of a text after the token that it begins with, if it is this one.
-pub fn strip_token(text: &[u8], token: Token) -> Option<&[u8]>
-    ensures { MatchOption result (BeginsOtherwise text.now token) (λ rest. Met text.now token rest.now) }
-{
-    let (first, rest) = first_token(text)?;
-    if first == token { Some(rest) } else { None }
 }

@@ -21,11 +21,6 @@ no_semicolon Token.Other o ts = refl
 pub not_ended : (t : Token) (rest : List ℕ) → (t ≡ Token.Semicolon → ⊥) → false ≡ ends (t ∷ tokens_of rest)
 not_ended t rest o = no_semicolon t o (tokens_of rest)
 
--- a text that is left at its end has no tokens
-pub no_ends : {ts : List Token} → ts ≡ [] → false ≡ ends ts
-unfolding ends
-no_ends e = sym (ap ends e)
-
 -- a semicolon, and what is after it
 pub ended : {t : Token} (rest : List ℕ) → t ≡ Token.Semicolon → {X : Type 0} (o : Option X) (first : X → Token) (past : X → List ℕ)
     → MatchOption o (tokens_of rest ≡ []) (λ x. Met rest (first x) (past x)) → {v : Bool} → is_some o ≡ not v → v ≡ ends (t ∷ tokens_of rest)

@@ -1,16 +1,17 @@
 -- The whole tree, from the part at the beginning of a text.
 use Rattle.std.specs.Prelude.{if◌then◌else◌}
 use Prim.Native.Nat.{ℕ, ◌+◌, ◌*◌}
-use mathlib.Core.Path.{◌≡◌, sym, ap, subst, ◌∙◌}
+use mathlib.Core.Path.{◌≡◌, refl, sym, ap, subst, ◌∙◌}
 use mathlib.Core.Bool.{Bool, true, false}
-use mathlib.Core.List.{List}
+use mathlib.Core.List.{List, ◌∷◌}
 use native.Mathlib.Omega.{arith}
 use lib.ListN.{length}
 use Rattle.newick.specs.Grammar.{part, Tree}
 use Rattle.newick.specs.Layout.{layout}
 use Rattle.newick.specs.Parsing.{tokens_of, ends, Outcome, got, read_in, closed, unread, tree, grown}
 use Rattle.outline.specs.Rules.{most_records}
-use Rattle.reading.specs.Inner.{IfGot, if_failed, if_got, Fresh, Drafted, Unread, unread_bad, unread_many, PartRead, TreeDrafted, NotDrafted, no_tree, large_tree}
+use Rattle.newick.specs.declared.token.Token.{Token}
+use Rattle.reading.specs.Inner.{IfGot, if_failed, if_got, Fresh, Drafted, Short, short_failed, short_ended, Unread, unread_bad, unread_many, PartRead, TreeDrafted, NotDrafted, no_tree, large_tree}
 use Rattle.reading.specs.declared.draft.Draft.{Draft}
 use Rattle.reading.specs.declared.draft.Part.{Part}
 use Rattle.reading.specs.declared.flaw.Flaw.{Flaw}
@@ -29,25 +30,32 @@ closed_if {P} t (if_got {t = u} {ts = ts} q) e = go (ends ts) e
     go false e = not_grown e
 
 -- a part is the tree, if a semicolon ends it
-closes : (text rest : List ℕ) (t : Tree part) → read_in (2 * length text + 1) part (tokens_of text) ≡ got t (tokens_of rest) → (b : Bool)
-    → b ≡ ends (tokens_of rest) → grown text ≡ (if b then tree t else unread)
+closes : (text : List ℕ) (ts : List Token) (t : Tree part) → read_in (2 * length text + 1) part (tokens_of text) ≡ got t ts → (b : Bool)
+    → b ≡ ends ts → grown text ≡ (if b then tree t else unread)
 unfolding grown
-closes text rest t e b f = ap closed e ∙ ap (λ c. if c then tree t else unread) (sym f)
+closes text ts t e b f = ap closed e ∙ ap (λ c. if c then tree t else unread) (sym f)
 
-pub tree_unread : {k : ℕ} {text : List ℕ} {flaw : Flaw} → Unread part k text flaw → k ≡ 0 → NotDrafted text flaw
+-- a short part is no tree
+closed_short : {o : Outcome part} → Short o → closed o ≡ unread
+unfolding ends
+closed_short short_failed = refl
+closed_short short_ended = refl
+
+pub tree_unread : {k : ℕ} {text : List ℕ} {flaw : Flaw} → Unread part Short k text flaw → k ≡ 0 → NotDrafted text flaw
 unfolding grown
-tree_unread {text = text} (unread_bad g) z = no_tree (ap closed (g (2 * length text + 1) (omega arith)))
+tree_unread {text = text} (unread_bad g) z = no_tree (closed_short (g (2 * length text + 1) (omega arith)))
 tree_unread {text = text} (unread_many g) z = large_tree (λ t e. omega (arith, closed_if t (g (2 * length text + 1) (omega arith)) e))
 
-module _ {pairs text rest : List ℕ} {start mid : Draft} {p : Part} (f : Fresh pairs start) (o : PartRead start mid text p rest) where
-  abbrev closes_by : (b : Bool) → b ≡ ends (tokens_of rest) → grown text ≡ (if b then tree o.tree else unread)
-  closes_by = closes text rest o.tree (o.read.reads (2 * length text + 1) (omega arith))
+module _ {pairs text rest : List ℕ} {start mid : Draft} {p : Part} {token : Token} (f : Fresh pairs start)
+    (o : PartRead start mid text p token rest) where
+  closes_by : (b : Bool) → b ≡ ends (token ∷ tokens_of rest) → grown text ≡ (if b then tree o.tree else unread)
+  closes_by = closes text (token ∷ tokens_of rest) o.tree (o.read.reads (2 * length text + 1) (omega arith))
 
   -- no semicolon ends it
-  pub tree_open : false ≡ ends (tokens_of rest) → NotDrafted text Flaw.Malformed
+  pub tree_open : false ≡ ends (token ∷ tokens_of rest) → NotDrafted text Flaw.Malformed
   tree_open e = no_tree (closes_by false e)
 
-  pub tree_reads : {d : Draft} → length start.bytes ≡ 16 * most_records → true ≡ ends (tokens_of rest) → Drafted 0 0 p mid d
+  pub tree_reads : {d : Draft} → length start.bytes ≡ 16 * most_records → true ≡ ends (token ∷ tokens_of rest) → Drafted 0 0 p mid d
       → TreeDrafted pairs text d
   unfolding layout
   tree_reads {d} long e w =

@@ -1,60 +1,76 @@
--- The length after a part, by the tokens that follow.
+-- What follows a part, by the tokens: a number after a colon, a length, a token.
 use Prim.Native.Nat.{ℕ}
-use mathlib.Core.Path.{◌≡◌, refl, ap, ◌∙◌}
+use mathlib.Core.Path.{◌≡◌, refl, sym, ap, subst, ◌∙◌}
 use mathlib.Core.List.{List, [], ◌∷◌}
 use native.Mathlib.Omega.{arith}
-use Rattle.std.specs.Prelude.{Option, None, Some, MatchOption}
 use Rattle.newick.specs.Grammar.{part, Tree}
-use Rattle.newick.specs.Inner.{Met, BeginsOtherwise}
+use Rattle.newick.specs.Inner.{Met}
 use Rattle.newick.specs.Parsing.{tokens_of, failed, got, with_number, with_length}
 use Rattle.newick.specs.declared.token.Token.{Token}
-use Rattle.reading.specs.Inner.{NoLength, LengthRead}
+use Rattle.reading.specs.Inner.{NoNumber, NumberRead, Short, short_failed, short_ended, Stopped, Followed}
 
 -- ---- the number after a colon
-number_fails : (t : Token) → ((l : ℕ) → t ≡ Token.Number l → ⊥) → (f : ℕ → Tree part) (ts : List Token) → with_number f (t ∷ ts) ≡ failed
+number_fails : (t : Token) → ((l : ℕ) → t ≡ Token.Number l → ⊥) → (made : ℕ → Tree part) (ts : List Token) → with_number made (t ∷ ts) ≡ failed
 unfolding with_number
-number_fails Token.Open o f ts = refl
-number_fails Token.Close o f ts = refl
-number_fails Token.Comma o f ts = refl
-number_fails Token.Colon o f ts = refl
-number_fails Token.Semicolon o f ts = refl
-number_fails (Token.Number l) o f ts = absurd (o l refl)
-number_fails Token.Other o f ts = refl
+number_fails Token.Open o made ts = refl
+number_fails Token.Close o made ts = refl
+number_fails Token.Comma o made ts = refl
+number_fails Token.Colon o made ts = refl
+number_fails Token.Semicolon o made ts = refl
+number_fails (Token.Number l) o made ts = absurd (o l refl)
+number_fails Token.Other o made ts = refl
 
-pub number_nowhere : (text : List ℕ) → tokens_of text ≡ [] → NoLength with_number text
+pub number_nowhere : (text : List ℕ) → tokens_of text ≡ [] → NoNumber text
 unfolding with_number
-number_nowhere text e f = ap (with_number f) e
+number_nowhere text e made = ap (with_number made) e
 
 module _ {text rest : List ℕ} {s : Token} (m : Met text s rest) where
-  pub number_missing : ((l : ℕ) → s ≡ Token.Number l → ⊥) → NoLength with_number text
-  number_missing o f = ap (with_number f) m.shows ∙ number_fails s o f (tokens_of rest)
+  pub number_missing : ((l : ℕ) → s ≡ Token.Number l → ⊥) → NoNumber text
+  number_missing o made = ap (with_number made) m.shows ∙ number_fails s o made (tokens_of rest)
 
-  pub number_there : (l : ℕ) → s ≡ Token.Number l → LengthRead with_number text l rest
+  pub number_there : (l : ℕ) → s ≡ Token.Number l → NumberRead text l rest
   unfolding with_number
-  number_there l e = record { reads = λ f. ap (with_number f) (m.shows ∙ ap (λ t. t ∷ tokens_of rest) e); left = omega (arith, m.shorter) }
+  number_there l e =
+      record { reads = λ made. ap (with_number made) (m.shows ∙ ap (λ t. t ∷ tokens_of rest) e); shorter = m.shorter }
 
--- ---- a colon and a length, or none
-pub no_colon : (ts : List Token) → ((later : List Token) → ts ≡ Token.Colon ∷ later → ⊥) → (f : ℕ → Tree part) → with_length f ts ≡ got (f 0) ts
+-- ---- a length, and the token after it
+no_colon : (t : Token) → (t ≡ Token.Colon → ⊥) → (made : ℕ → Tree part) (ts : List Token) → with_length made (t ∷ ts) ≡ got (made 0) (t ∷ ts)
 unfolding with_length
-no_colon [] o f = refl
-no_colon (Token.Open ∷ ts) o f = refl
-no_colon (Token.Close ∷ ts) o f = refl
-no_colon (Token.Comma ∷ ts) o f = refl
-no_colon (Token.Colon ∷ ts) o f = absurd (o ts refl)
-no_colon (Token.Semicolon ∷ ts) o f = refl
-no_colon (Token.Number l ∷ ts) o f = refl
-no_colon (Token.Other ∷ ts) o f = refl
+no_colon Token.Open o made ts = refl
+no_colon Token.Close o made ts = refl
+no_colon Token.Comma o made ts = refl
+no_colon Token.Colon o made ts = absurd (o refl)
+no_colon Token.Semicolon o made ts = refl
+no_colon (Token.Number l) o made ts = refl
+no_colon Token.Other o made ts = refl
 
-pub length_missing : {text : List ℕ} → BeginsOtherwise text Token.Colon → LengthRead with_length text 0 text
-length_missing {text} o = record { reads = no_colon (tokens_of text) o; left = omega arith }
+-- nothing is left
+pub stops_nowhere : (text : List ℕ) → tokens_of text ≡ [] → Stopped text
+unfolding with_length
+stops_nowhere text e made = subst Short (sym (ap (with_length made) e)) short_ended
 
-module _ {text rest : List ℕ} (m : Met text Token.Colon rest) where
-  colon_next : (f : ℕ → Tree part) → with_length f (tokens_of text) ≡ with_number f (tokens_of rest)
-  unfolding with_length
-  colon_next f = ap (with_length f) m.shows
+module _ {text rest : List ℕ} {s : Token} (m : Met text s rest) where
+  -- another token than a colon
+  pub follows_other : (s ≡ Token.Colon → ⊥) → Followed text 0 s rest
+  follows_other o = record { reads = λ made. ap (with_length made) m.shows ∙ no_colon s o made (tokens_of rest); shorter = m.shorter }
 
-  pub length_there : {X : Type 0} (o : Option X) (l : X → ℕ) (past : X → List ℕ)
-      → MatchOption o (NoLength with_number rest) (λ x. LengthRead with_number rest (l x) (past x))
-      → MatchOption o (NoLength with_length text) (λ x. LengthRead with_length text (l x) (past x))
-  length_there None l past g = λ f. colon_next f ∙ g f
-  length_there (Some x) l past g = record { reads = λ f. colon_next f ∙ g.reads f; left = omega (arith, g.left, m.shorter) }
+  -- a colon, and no number or one
+  module _ (e : s ≡ Token.Colon) where
+    at_colon : (made : ℕ → Tree part) → with_length made (tokens_of text) ≡ with_number made (tokens_of rest)
+    unfolding with_length
+    at_colon made = ap (with_length made) (m.shows ∙ ap (λ t. t ∷ tokens_of rest) e)
+
+    pub colon_stops : NoNumber rest → Stopped text
+    colon_stops g made = subst Short (sym (at_colon made ∙ g made)) short_failed
+
+    module _ {l : ℕ} {past : List ℕ} (g : NumberRead rest l past) where
+      -- and nothing follows the length, or a token
+      pub length_stops : tokens_of past ≡ [] → Stopped text
+      length_stops z made = subst Short (sym (at_colon made ∙ g.reads made ∙ ap (got (made l)) z)) short_ended
+
+      pub length_follows : {t : Token} {after : List ℕ} → Met past t after → Followed text l t after
+      length_follows n =
+          record {
+            reads = λ made. at_colon made ∙ g.reads made ∙ ap (got (made l)) n.shows;
+            shorter = omega (arith, m.shorter, g.shorter, n.shorter);
+          }

@@ -16,8 +16,8 @@ use Rattle.newick.specs.declared.token.Token.{Token}
 use Rattle.newick.proofs.Layouts.{count_some}
 use Rattle.newick.proofs.Tokens.{by_first}
 use Rattle.outline.specs.Rules.{most_records}
-use Rattle.reading.specs.Inner.{Begun, Full, Drafted, NoLength, LengthRead, fields_of, below, record_of}
-use Rattle.reading.specs.Inner.{IfGot, if_failed, if_got, Unread, unread_bad, unread_many, PartRead, ListRead}
+use Rattle.reading.specs.Inner.{Begun, Full, Drafted, fields_of, below, record_of, Short, short_failed, short_ended, Stopped, Followed}
+use Rattle.reading.specs.Inner.{IfGot, if_failed, if_got, Failed, Unread, unread_bad, unread_many, PartRead, ListRead}
 use Rattle.reading.specs.declared.draft.Draft.{Draft}
 use Rattle.reading.specs.declared.draft.Part.{Part}
 use Rattle.reading.specs.declared.flaw.Flaw.{Flaw}
@@ -101,21 +101,26 @@ pub no_value : {X : Type 0} {o : Option X} {flaw : Flaw} → Err flaw ≡ ok_or 
 no_value {o = None} e z = cc
 no_value {o = Some x} e z = cc
 
+-- a part that fails is short
+fails_short : {o : Outcome part} → o ≡ failed → Short o
+fails_short e = subst Short (sym e) short_failed
+
 module _ (k : ℕ) (text : List ℕ) where
   -- the records of a part that begins now would be too many
-  pub part_stops : {from : Draft} {flaw : Flaw} → Full from flaw → k ≡ from.records → Unread part k text flaw
+  pub part_stops : {from : Draft} {flaw : Flaw} → Full from flaw → k ≡ from.records → Unread part Short k text flaw
   part_stops f e =
-      subst (Unread part k text) (sym f.is) (unread_many (λ n h. always _ (λ t. omega (arith, count_some t, f.full)) _))
+      subst (Unread part Short k text) (sym f.is) (unread_many (λ n h. always _ (λ t. omega (arith, count_some t, f.full)) _))
 
   -- nothing is left
-  pub part_nowhere : tokens_of text ≡ [] → Unread part k text Flaw.Malformed
+  pub part_nowhere : tokens_of text ≡ [] → Unread part Short k text Flaw.Malformed
   unfolding part_from
-  part_nowhere e = unread_bad (part_by_lem _ _ _ (λ n b. ap (part_from (read_in n chain)) e))
+  part_nowhere e = unread_bad (λ n b. fails_short (part_by_lem _ _ _ (λ n _. ap (part_from (read_in n chain)) e) n b))
 
   pub part_fails : {rest : List ℕ} {s : Token} → Met text s rest → (s ≡ Token.Open → ⊥) → ((q : ℕ) → s ≡ Token.Number q → ⊥)
-      → Unread part k text Flaw.Malformed
+      → Unread part Short k text Flaw.Malformed
   part_fails {rest} {s} m o v =
-      unread_bad (part_by_lem _ _ _ (λ n b. ap (part_from (read_in n chain)) m.shows ∙ no_part s o v (read_in n chain) (tokens_of rest)))
+      unread_bad
+      (λ n b. fails_short (part_by_lem _ _ _ (λ n _. ap (part_from (read_in n chain)) m.shows ∙ no_part s o v (read_in n chain) (tokens_of rest)) n b))
 
 -- a part is read but for its length
 pub record HeadRead (from to : Draft) (text : List ℕ) (first plate : ℕ) (rest : List ℕ) : Type 0 where
@@ -148,8 +153,9 @@ module _ {from mid : Draft} {k : ℕ} (b : Begun from mid k) {text rest : List �
     unfolding part_from
     opens n = ap (part_from (read_in n chain)) (m.shows ∙ ap (λ t. t ∷ tokens_of rest) e)
 
-    pub group_unread : {flaw : Flaw} → Unread chain mid.records rest flaw → Unread part from.records text flaw
-    group_unread (unread_bad g) = unread_bad (part_by_lem _ _ _ (λ n h. opens n ∙ ap grouped (g n (omega (arith, m.shorter)))))
+    pub group_unread : {flaw : Flaw} → Unread chain Failed mid.records rest flaw → Unread part Short from.records text flaw
+    group_unread (unread_bad g) =
+        unread_bad (λ n b. fails_short (part_by_lem _ _ _ (λ n h. opens n ∙ ap grouped (g n (omega (arith, m.shorter)))) n b))
     group_unread (unread_many g) =
         unread_many (part_if _ _ _ (λ n h. rw (opens n) (group_if _ (λ ms l q. omega (arith, b.counted)) (g n (omega (arith, m.shorter))))))
 
@@ -158,7 +164,7 @@ module _ {from mid : Draft} {k : ℕ} (b : Begun from mid k) {text rest : List �
         record {
           made = group l.members;
           reads = λ n h. opens n ∙ ap grouped (l.read.reads n (omega (arith, m.shorter)));
-          shorter = omega (arith, m.shorter, l.read.shorter);
+          shorter = omega (arith, m.shorter, l.shorter);
           counted = λ _. omega (arith, l.read.counted, b.counted);
           pairs_stay = l.read.pairs_stay ∙ b.pairs_stay;
           fields = λ j. ap (λ i. record { first = i + 2; length = j; plate = 0 }) b.before_is;
@@ -167,21 +173,24 @@ module _ {from mid : Draft} {k : ℕ} (b : Begun from mid k) {text rest : List �
 
 -- and its length
 module _ {from to : Draft} {text rest : List ℕ} {first plate : ℕ} (h : HeadRead from to text first plate rest) where
-  pub part_unfinished : NoLength with_length rest → Unread part from.records text Flaw.Malformed
-  part_unfinished g = unread_bad (part_by_lem _ _ _ (λ n b. h.reads n b ∙ g h.made))
+  pub part_unfinished : Stopped rest → Unread part Short from.records text Flaw.Malformed
+  part_unfinished g = unread_bad (λ n b. short n (g h.made) b)
+    where
+      short : (n : ℕ) → Short (with_length h.made (tokens_of rest)) → 2 * length text < n → Short (read_in n part (tokens_of text))
+      short n s b = subst Short (sym (part_by_lem _ _ _ h.reads n b)) s
 
-  pub part_finished : {l : ℕ} {past : List ℕ} → LengthRead with_length rest l past
-      → PartRead from to text (record { first = first; length = l; plate = plate }) past
+  pub part_finished : {l : ℕ} {token : Token} {past : List ℕ} → Followed rest l token past
+      → PartRead from to text (record { first = first; length = l; plate = plate }) token past
   part_finished {l} g =
       record {
         tree = h.made l;
         read =
             record {
               reads = part_by_lem _ _ _ (λ n b. h.reads n b ∙ g.reads h.made);
-              shorter = omega (arith, h.shorter, g.left);
               counted = h.counted l;
               pairs_stay = h.pairs_stay;
             };
+        shorter = omega (arith, h.shorter, g.shorter);
         fields = h.fields l;
         drafted = h.drafted l;
       }
@@ -198,12 +207,18 @@ no_next Token.Semicolon a o f t ts = refl
 no_next (Token.Number p) a o f t ts = refl
 no_next Token.Other a o f t ts = refl
 
-pub list_unread : {k : ℕ} {text : List ℕ} {flaw : Flaw} → Unread part k text flaw → Unread chain k text flaw
-list_unread (unread_bad g) = unread_bad (list_by _ _ _ (λ n h. ap (chain_from (read_in n chain)) (g n (omega arith))))
+-- a list that begins with a short part fails
+chain_short : (f : List Token → Outcome chain) {o : Outcome part} → Short o → chain_from f o ≡ failed
+unfolding chain_then
+chain_short f short_failed = refl
+chain_short f short_ended = refl
+
+pub list_unread : {k : ℕ} {text : List ℕ} {flaw : Flaw} → Unread part Short k text flaw → Unread chain Failed k text flaw
+list_unread (unread_bad g) = unread_bad (list_by _ _ _ (λ n h. chain_short (read_in n chain) (g n (omega arith))))
 list_unread (unread_many g) =
     unread_many (list_if _ _ _ (λ n h. chain_if _ (read_in n chain) (λ t q. omega arith) (λ t ms q. omega arith) (g n (omega arith))))
 
-module _ {from mid : Draft} {text rest : List ℕ} {p : Part} (o : PartRead from mid text p rest) where
+module _ {from mid : Draft} {text rest : List ℕ} {p : Part} {token : Token} (o : PartRead from mid text p token rest) where
   abbrev t : Tree part
   t = o.tree
 
@@ -213,81 +228,75 @@ module _ {from mid : Draft} {text rest : List ℕ} {p : Part} (o : PartRead from
   pub own_room : from.records < most_records
   own_room = omega (arith, few, count_some t)
 
-  -- the member is read, and what follows decides
-  member : (n : ℕ) → 2 * length text < n → (ts : List Token) → tokens_of rest ≡ ts
-      → chain_from (read_in n chain) (read_in n part (tokens_of text)) ≡ chain_then (read_in n chain) t ts
+  -- the member is read, and the token that follows it decides
+  member : (n : ℕ) → 2 * length text < n
+      → chain_from (read_in n chain) (read_in n part (tokens_of text)) ≡ chain_then (read_in n chain) t (token ∷ tokens_of rest)
   unfolding chain_then
-  member n h ts e = ap (chain_from (read_in n chain)) (o.read.reads n h) ∙ ap (chain_then (read_in n chain) t) e
+  member n h = ap (chain_from (read_in n chain)) (o.read.reads n h)
 
-  -- nothing
-  pub list_nowhere : tokens_of rest ≡ [] → Unread chain from.records text Flaw.Malformed
-  unfolding chain_then
-  list_nowhere e = unread_bad (list_by _ _ _ (λ n h. member n (omega arith) [] e))
+  pub list_fails : (token ≡ Token.Comma → ⊥) → (token ≡ Token.Close → ⊥) → Unread chain Failed from.records text Flaw.Malformed
+  list_fails a k = unread_bad (list_by _ _ _ (λ n h. member n (omega arith) ∙ no_next token a k (read_in n chain) t (tokens_of rest)))
 
-  module _ {past : List ℕ} {s : Token} (m : Met rest s past) where
-    pub list_fails : (s ≡ Token.Comma → ⊥) → (s ≡ Token.Close → ⊥) → Unread chain from.records text Flaw.Malformed
-    list_fails a k =
-        unread_bad (list_by _ _ _ (λ n h. member n (omega arith) (s ∷ tokens_of past) m.shows ∙ no_next s a k (read_in n chain) t (tokens_of past)))
+  followed_by : (s : Token) → token ≡ s → (n : ℕ) → 2 * length text < n
+      → chain_from (read_in n chain) (read_in n part (tokens_of text)) ≡ chain_then (read_in n chain) t (s ∷ tokens_of rest)
+  followed_by s e n h = member n h ∙ ap (λ u. chain_then (read_in n chain) t (u ∷ tokens_of rest)) e
 
-    -- the member's records are drafted
-    module _ {next : ℕ} {to : Draft} (long : length from.bytes ≡ 16 * most_records) (d : Drafted from.records next p mid to) where
-      own : to.bytes ≡ over_at (16 * from.records) (rows (price_in from.pairs.now) t (from.records + 1) next) from.bytes
-      own =
-          d.written ∙ ap (λ pairs. over_at (16 * from.records) (record_of pairs next p) mid.bytes) o.read.pairs_stay
-          ∙ own_drafted from.pairs.now from.records next from.bytes t few long o.fields o.drafted
+  -- the member's records are drafted
+  module _ {next : ℕ} {to : Draft} (long : length from.bytes ≡ 16 * most_records) (d : Drafted from.records next p mid to) where
+    own : to.bytes ≡ over_at (16 * from.records) (rows (price_in from.pairs.now) t (from.records + 1) next) from.bytes
+    own =
+        d.written ∙ ap (λ pairs. over_at (16 * from.records) (record_of pairs next p) mid.bytes) o.read.pairs_stay
+        ∙ own_drafted from.pairs.now from.records next from.bytes t few long o.fields o.drafted
 
-      -- the closing bracket
-      pub list_ends : s ≡ Token.Close → next ≡ 0 → ListRead from to text past
+    -- the closing bracket
+    pub list_ends : token ≡ Token.Close → next ≡ 0 → ListRead from to text rest
+    unfolding chain_then
+    list_ends e z =
+        record {
+          members = last t;
+          read =
+              record {
+                reads = list_by _ _ _ (λ n h. followed_by Token.Close e n (omega arith));
+                counted = d.records_stay ∙ o.read.counted;
+                pairs_stay = d.pairs_stay ∙ o.read.pairs_stay;
+              };
+          shorter = o.shorter;
+          drafted = last_drafted (price_in from.pairs.now) from.records from.bytes t (rw z at own);
+        }
+
+    -- a comma, and the rest of the list
+    module _ (e : token ≡ Token.Comma) (f : next ≡ mid.records + 1) where
+      goes : (n : ℕ) → 2 * length text < n
+          → chain_from (read_in n chain) (read_in n part (tokens_of text)) ≡ joined t (read_in n chain (tokens_of rest))
       unfolding chain_then
-      list_ends e z =
+      goes n h = followed_by Token.Comma e n h
+
+      rest_unread : {flaw : Flaw} → Unread chain Failed to.records rest flaw → Unread chain Failed from.records text flaw
+      rest_unread (unread_bad g) = unread_bad (list_by _ _ _ (λ n h. goes n (omega arith) ∙ ap (joined t) (g n (omega (arith, o.shorter)))))
+      rest_unread (unread_many g) =
+          unread_many
+          (list_if _ _ _
+          (λ n h. rw (goes n (omega arith)) (joined_if _ t (λ ms q. omega (arith, d.records_stay, o.read.counted)) (g n (omega (arith, o.shorter))))))
+
+      rest_read : {end : List ℕ} {after : Draft} → ListRead to after rest end → ListRead from after text end
+      rest_read {end} {after} l =
           record {
-            members = last t;
+            members = more t l.members;
             read =
                 record {
-                  reads = list_by _ _ _ (λ n h. member n (omega arith) (Token.Close ∷ tokens_of past) (m.shows ∙ ap (λ u. u ∷ tokens_of past) e));
-                  shorter = omega (arith, m.shorter, o.read.shorter);
-                  counted = d.records_stay ∙ o.read.counted;
-                  pairs_stay = d.pairs_stay ∙ o.read.pairs_stay;
+                  reads = list_by _ _ _ (λ n h. goes n (omega arith) ∙ ap (joined t) (l.read.reads n (omega (arith, o.shorter))));
+                  counted = omega (arith, d.records_stay, o.read.counted, l.read.counted);
+                  pairs_stay = l.read.pairs_stay ∙ d.pairs_stay ∙ o.read.pairs_stay;
                 };
-            drafted = last_drafted (price_in from.pairs.now) from.records from.bytes t (rw z at own);
+            shorter = omega (arith, o.shorter, l.shorter);
+            drafted =
+                list_drafted from.pairs.now from.records mid.records from.bytes t l.members few long o.read.counted
+                (own ∙ ap (λ j. over_at (16 * from.records) (rows (price_in from.pairs.now) t (from.records + 1) j) from.bytes) f)
+                (l.drafted ∙ rw (d.records_stay, d.pairs_stay, o.read.pairs_stay));
           }
 
-      -- a comma, and the rest of the list
-      module _ (e : s ≡ Token.Comma) (f : next ≡ mid.records + 1) where
-        goes : (n : ℕ) → 2 * length text < n
-            → chain_from (read_in n chain) (read_in n part (tokens_of text)) ≡ joined t (read_in n chain (tokens_of past))
-        unfolding chain_then
-        goes n h = member n h (Token.Comma ∷ tokens_of past) (m.shows ∙ ap (λ u. u ∷ tokens_of past) e)
-
-        falls : 2 * length past + 1 < 2 * length text
-        falls = omega (arith, m.shorter, o.read.shorter)
-
-        rest_unread : {flaw : Flaw} → Unread chain to.records past flaw → Unread chain from.records text flaw
-        rest_unread (unread_bad g) = unread_bad (list_by _ _ _ (λ n h. goes n (omega arith) ∙ ap (joined t) (g n (omega (arith, falls)))))
-        rest_unread (unread_many g) =
-            unread_many
-            (list_if _ _ _
-            (λ n h. rw (goes n (omega arith)) (joined_if _ t (λ ms q. omega (arith, d.records_stay, o.read.counted)) (g n (omega (arith, falls))))))
-
-        rest_read : {end : List ℕ} {after : Draft} → ListRead to after past end → ListRead from after text end
-        rest_read {end} {after} l =
-            record {
-              members = more t l.members;
-              read =
-                  record {
-                    reads = list_by _ _ _ (λ n h. goes n (omega arith) ∙ ap (joined t) (l.read.reads n (omega (arith, falls))));
-                    shorter = omega (arith, m.shorter, o.read.shorter, l.read.shorter);
-                    counted = omega (arith, d.records_stay, o.read.counted, l.read.counted);
-                    pairs_stay = l.read.pairs_stay ∙ d.pairs_stay ∙ o.read.pairs_stay;
-                  };
-              drafted =
-                  list_drafted from.pairs.now from.records mid.records from.bytes t l.members few long o.read.counted
-                  (own ∙ ap (λ j. over_at (16 * from.records) (rows (price_in from.pairs.now) t (from.records + 1) j) from.bytes) f)
-                  (l.drafted ∙ rw (d.records_stay, d.pairs_stay, o.read.pairs_stay));
-            }
-
-        pub list_goes : {X : Type 0} (r : Result X Flaw) (end : X → List ℕ) (after : Draft)
-            → MatchResult r (λ x. ListRead to after past (end x)) (Unread chain to.records past)
-            → MatchResult r (λ x. ListRead from after text (end x)) (Unread chain from.records text)
-        list_goes (Ok x) end after l = rest_read l
-        list_goes (Err flaw) end after g = rest_unread g
+      pub list_goes : {X : Type 0} (r : Result X Flaw) (end : X → List ℕ) (after : Draft)
+          → MatchResult r (λ x. ListRead to after rest (end x)) (Unread chain Failed to.records rest)
+          → MatchResult r (λ x. ListRead from after text (end x)) (Unread chain Failed from.records text)
+      list_goes (Ok x) end after l = rest_read l
+      list_goes (Err flaw) end after g = rest_unread g

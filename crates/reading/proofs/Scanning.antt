@@ -1,5 +1,5 @@
 -- Going through a text: each step keeps what the reader makes of the whole.
-use Rattle.std.specs.Prelude.{if◌then◌else◌, Option, None, Some, MatchOption}
+use Rattle.std.specs.Prelude.{if◌then◌else◌, Option, None, Some}
 use Prim.Native.Nat.{ℕ, suc, ◌+◌, ◌*◌, ◌-◌, ◌≤◌, ◌<◌}
 use mathlib.Core.Path.{◌≡◌, refl, sym, ap, subst, ◌∙◌}
 use mathlib.Core.Bool.{Bool, true, false}
@@ -9,14 +9,13 @@ use native.Mathlib.Omega.{arith}
 use lib.ListN.{length}
 use Rattle.newick.specs.Grammar.{part, chain, Tree, taxon, group, last, more}
 use Rattle.newick.specs.Inner.{Met}
-use Rattle.newick.specs.Parsing.{tokens_of, Outcome, failed, got, with_number, with_length, grouped, part_from, joined, chain_then, chain_from, read_in}
+use Rattle.newick.specs.Parsing.{tokens_of, Outcome, failed, got, with_length, grouped, part_from, joined, chain_then, chain_from, read_in}
 use Rattle.newick.specs.Parsing.{ends, Parsed, unread, tree, closed, grown}
 use Rattle.newick.specs.declared.token.Token.{Token}
-use Rattle.reading.specs.Inner.{NoLength, LengthRead}
+use Rattle.reading.specs.Inner.{Short, short_failed, short_ended, Stopped, Followed}
 use Rattle.reading.specs.Scan.{is_tree, grouped_as, Lists, no_list, a_list, Inside, Wanted, Taken}
-use Rattle.reading.specs.Scan.{Short, short_failed, short_ended, Stopped, Followed, FromTaxon, FromPart}
+use Rattle.reading.specs.Scan.{FromTaxon, FromPart}
 use Rattle.reading.specs.declared.place.Place.{Place}
-use Rattle.reading.proofs.Lengths.{no_colon}
 use Rattle.reading.proofs.Parts.{no_part, no_next}
 
 -- ---- open lists
@@ -77,45 +76,8 @@ module _ {whole : Parsed} (text : List ℕ) {d : ℕ} (made : ℕ → Tree part)
   stopped : Stopped text → is_tree whole ≡ false
   stopped g = inside_stops i (g made)
 
-  followed : {token : Token} {rest : List ℕ} → Followed text token rest → Taken whole token rest d
-  followed g = record { taken = made g.long; inside = inside_later i (omega (arith, g.shorter)) (g.reads made) }
-
--- nothing follows
-pub stops_nowhere : (text : List ℕ) → tokens_of text ≡ [] → Stopped text
-unfolding with_length
-stops_nowhere text e made = subst Short (sym (ap (with_length made) e)) short_ended
-
-module _ {text rest : List ℕ} {s : Token} (m : Met text s rest) where
-  -- another token than a colon
-  pub follows_other : (s ≡ Token.Colon → ⊥) → Followed text s rest
-  follows_other o =
-      record {
-        long = 0;
-        reads = λ made. ap (with_length made) m.shows ∙ no_colon (s ∷ tokens_of rest) (λ later e. o cc) made;
-        shorter = m.shorter;
-      }
-
-  -- a colon, and no length or one
-  module _ (e : s ≡ Token.Colon) where
-    at_colon : (made : ℕ → Tree part) → with_length made (tokens_of text) ≡ with_number made (tokens_of rest)
-    unfolding with_length
-    at_colon made = ap (with_length made) (m.shows ∙ ap (λ t. t ∷ tokens_of rest) e)
-
-    pub colon_stops : NoLength with_number rest → Stopped text
-    colon_stops g made = subst Short (sym (at_colon made ∙ g made)) short_failed
-
-    module _ {l : ℕ} {past : List ℕ} (g : LengthRead with_number rest l past) where
-      -- and nothing follows the length, or a token
-      pub colon_follows : {X : Type 0} (o : Option X) (token : X → Token) (left : X → List ℕ)
-          → MatchOption o (tokens_of past ≡ []) (λ x. Met past (token x) (left x))
-          → MatchOption o (Stopped text) (λ x. Followed text (token x) (left x))
-      colon_follows None token left z = λ made. subst Short (sym (at_colon made ∙ g.reads made ∙ ap (got (made l)) z)) short_ended
-      colon_follows (Some x) token left n =
-          record {
-            long = l;
-            reads = λ made. at_colon made ∙ g.reads made ∙ ap (got (made l)) n.shows;
-            shorter = omega (arith, m.shorter, g.left, n.shorter);
-          }
+  followed : {l : ℕ} {token : Token} {rest : List ℕ} → Followed text l token rest → Taken whole token rest d
+  followed {l} g = record { taken = made l; inside = inside_later i (omega (arith, g.shorter)) (g.reads made) }
 
 -- ---- a part is wanted
 
@@ -150,7 +112,7 @@ module _ {whole : Parsed} {text : List ℕ} {depth : ℕ} (k : Wanted whole text
       pub taxon_stops : Stopped rest → is_tree whole ≡ false
       taxon_stops = stopped rest (taxon v) taxon_inside
 
-      pub taxon_taken : {token : Token} {past : List ℕ} → Followed rest token past → Taken whole token past depth
+      pub taxon_taken : {l : ℕ} {token : Token} {past : List ℕ} → Followed rest l token past → Taken whole token past depth
       taxon_taken = followed rest (taxon v) taxon_inside
 
 -- lists open, one after the other
@@ -185,7 +147,7 @@ module _ {start : List ℕ} {outer : ℕ} {text : List ℕ} {depth : ℕ} (d : D
       pub descending_stops : Stopped rest → FromTaxon start outer None
       descending_stops g = leads_nowhere (λ _ w. taxon_stops w m e g)
 
-      pub descending_taken : {to : Place} → Followed rest to.token to.rest.now → to.depth ≡ depth → FromTaxon start outer (Some to)
+      pub descending_taken : {l : ℕ} {to : Place} → Followed rest l to.token to.rest.now → to.depth ≡ depth → FromTaxon start outer (Some to)
       descending_taken g z =
           record {
             taken = λ whole w. rw z (taxon_taken (d.wanted whole w) m e g);
@@ -263,7 +225,7 @@ module _ {from : Place} (some : 0 < from.depth) where
     pub onward_stops : Stopped from.rest.now → FromPart from None
     onward_stops g = goes_nowhere (λ _ w. stopped _ _ (list_inside w some e) g)
 
-    pub onward_taken : {to : Place} → Followed from.rest.now to.token to.rest.now → to.depth ≡ from.depth - 1 → FromPart from (Some to)
+    pub onward_taken : {l : ℕ} {to : Place} → Followed from.rest.now l to.token to.rest.now → to.depth ≡ from.depth - 1 → FromPart from (Some to)
     onward_taken g z = record { taken = λ whole w. rw z (followed _ _ (list_inside w some e) g); shorter = g.shorter }
 
 -- a part in no list is the tree, if a semicolon ends it

@@ -9,7 +9,7 @@ use Rattle.newick.specs.Grammar.{Kind, part, chain, Tree, taxon, group}
 use Rattle.newick.specs.Inner.{plates_of}
 use Rattle.newick.specs.Layout.{count, rows, layout}
 use Rattle.newick.specs.Pairs.{price_in, pairs_of, bad_pairs}
-use Rattle.newick.specs.Parsing.{tokens_of, Outcome, failed, got, read_in, unread, tree, grown}
+use Rattle.newick.specs.Parsing.{tokens_of, Outcome, failed, got, with_number, with_length, read_in, unread, tree, grown}
 use Rattle.newick.specs.declared.token.Token.{Token}
 use Rattle.reading.specs.Answer.{Figures, counted, no_figures}
 use Rattle.reading.specs.declared.draft.Draft.{Draft}
@@ -53,14 +53,28 @@ pub record Drafted (k next : ℕ) (p : Part) (from to : Draft) : Type 0 where
 
 -- ---- parts and lists
 
--- a length, read in one of two ways, is none
-abbrev pub NoLength : ((ℕ → Tree part) → List Token → Outcome part) → List ℕ → Type 0
-NoLength reading text = (f : ℕ → Tree part) → reading f (tokens_of text) ≡ failed
+-- the number after a colon is none
+abbrev pub NoNumber : List ℕ → Type 0
+NoNumber text = (made : ℕ → Tree part) → with_number made (tokens_of text) ≡ failed
 
--- or it makes a part of what is one but for it, and leaves the rest of the text
-pub record LengthRead (reading : (ℕ → Tree part) → List Token → Outcome part) (text : List ℕ) (l : ℕ) (rest : List ℕ) : Type 0 where
-  pub reads : (f : ℕ → Tree part) → reading f (tokens_of text) ≡ got (f l) (tokens_of rest)
-  pub left : length rest ≤ length text
+-- or it makes a part of what is one but for its length, and leaves the rest of the text
+pub record NumberRead (text : List ℕ) (l : ℕ) (rest : List ℕ) : Type 0 where
+  pub reads : (made : ℕ → Tree part) → with_number made (tokens_of text) ≡ got (made l) (tokens_of rest)
+  pub shorter : length rest < length text
+
+-- a part that fails, or that nothing follows
+pub data Short : Outcome part → Type 0 where
+  short_failed : Short failed
+  short_ended : {t : Tree part} → Short (got t [])
+
+-- what is a part but for its length is such a part
+abbrev pub Stopped : List ℕ → Type 0
+Stopped text = (made : ℕ → Tree part) → Short (with_length made (tokens_of text))
+
+-- or it has this length, and a token follows
+pub record Followed (text : List ℕ) (l : ℕ) (token : Token) (rest : List ℕ) : Type 0 where
+  pub reads : (made : ℕ → Tree part) → with_length made (tokens_of text) ≡ got (made l) (token ∷ tokens_of rest)
+  pub shorter : length rest < length text
 
 -- the fields of a part's record, k records before it, and the bytes of the records below it
 abbrev pub first_of : ℕ → Tree part → ℕ
@@ -92,30 +106,35 @@ abbrev pub calls_for : Kind → ℕ → ℕ
 calls_for part n = 2 * n
 calls_for chain n = 2 * n + 1
 
--- why nothing is drafted of a text, k records before it: nothing is read of it; or more records than 127, if anything is
-pub data Unread (κ : Kind) (k : ℕ) (text : List ℕ) : Flaw → Type 0 where
-  unread_bad : ((n : ℕ) → calls_for κ (length text) < n → read_in n κ (tokens_of text) ≡ failed) → Unread κ k text Flaw.Malformed
-  unread_many : ((n : ℕ) → calls_for κ (length text) < n → IfGot (λ (t : Tree κ). most_records < k + count t) (read_in n κ (tokens_of text)))
-      → Unread κ k text Flaw.TooMany
+-- a list that fails
+abbrev pub Failed : Outcome chain → Type 0
+Failed o = o ≡ failed
 
--- a tree is read of a text, and its records are counted
-pub record TreeRead (κ : Kind) (from to : Draft) (text rest : List ℕ) (t : Tree κ) : Type 0 where
-  pub reads : (n : ℕ) → calls_for κ (length text) < n → read_in n κ (tokens_of text) ≡ got t (tokens_of rest)
-  pub shorter : length rest < length text
+-- why nothing is drafted of a text, k records before it: what is read of it is bad; or more records than 127, if anything is read
+pub data Unread (κ : Kind) (Bad : Outcome κ → Type 0) (k : ℕ) (text : List ℕ) : Flaw → Type 0 where
+  unread_bad : ((n : ℕ) → calls_for κ (length text) < n → Bad (read_in n κ (tokens_of text))) → Unread κ Bad k text Flaw.Malformed
+  unread_many : ((n : ℕ) → calls_for κ (length text) < n → IfGot (λ (t : Tree κ). most_records < k + count t) (read_in n κ (tokens_of text)))
+      → Unread κ Bad k text Flaw.TooMany
+
+-- a tree is read of a text, these tokens are left, and its records are counted
+pub record TreeRead (κ : Kind) (from to : Draft) (text : List ℕ) (left : List Token) (t : Tree κ) : Type 0 where
+  pub reads : (n : ℕ) → calls_for κ (length text) < n → read_in n κ (tokens_of text) ≡ got t left
   pub counted : to.records ≡ from.records + count t
   pub pairs_stay : to.pairs.now ≡ from.pairs.now
 
--- a part is read: the fields of its record, and the records below it in the draft
-pub record PartRead (from to : Draft) (text : List ℕ) (p : Part) (rest : List ℕ) : Type 0 where
+-- a part is read: the fields of its record, the token that follows, and the records below it in the draft
+pub record PartRead (from to : Draft) (text : List ℕ) (p : Part) (token : Token) (rest : List ℕ) : Type 0 where
   pub tree : Tree part
-  pub read : TreeRead part from to text rest tree
+  pub read : TreeRead part from to text (token ∷ tokens_of rest) tree
+  pub shorter : length rest < length text
   pub fields : p ≡ fields_of from.records tree
   pub drafted : to.bytes ≡ over_at (16 * (from.records + 1)) (below from.pairs.now from.records tree) from.bytes
 
 -- a list is read, with its records in the draft
 pub record ListRead (from to : Draft) (text rest : List ℕ) : Type 0 where
   pub members : Tree chain
-  pub read : TreeRead chain from to text rest members
+  pub read : TreeRead chain from to text (tokens_of rest) members
+  pub shorter : length rest < length text
   pub drafted : to.bytes ≡ over_at (16 * from.records) (rows (price_in from.pairs.now) members (from.records + 1) 0) from.bytes
 
 -- ---- the tree

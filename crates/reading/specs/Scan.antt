@@ -1,5 +1,5 @@
 -- Going through a text once: what is left of the reading, inside of open lists.
-use Rattle.std.specs.Prelude.{ℕ, ◌+◌, ◌*◌, ◌≤◌, ◌<◌, ◌≡◌, Bool, true, false, List, [], ◌∷◌, length, Option, MatchOption}
+use Rattle.std.specs.Prelude.{ℕ, ◌+◌, ◌*◌, ◌≤◌, ◌<◌, ◌≡◌, Bool, true, false, List, ◌∷◌, length, Option, MatchOption}
 use Rattle.newick.specs.Grammar.{part, chain, Tree}
 use Rattle.newick.specs.Parsing.{tokens_of, Outcome, failed, got, with_length, part_from, chain_from, read_in, Parsed, unread, tree, closed}
 use Rattle.newick.specs.declared.token.Token.{Token}
@@ -38,20 +38,6 @@ pub record Wanted (whole : Parsed) (text : List ℕ) (depth : ℕ) : Type 0 wher
 pub record Taken (whole : Parsed) (token : Token) (rest : List ℕ) (depth : ℕ) : Type 0 where
   pub taken : Tree part
   pub inside : Inside whole (length rest + 1) depth (got taken (token ∷ tokens_of rest))
-
--- a part cannot be all: its length fails, or nothing follows it
-pub data Short : Outcome part → Type 0 where
-  short_failed : Short failed
-  short_ended : {t : Tree part} → Short (got t [])
-
-abbrev pub Stopped : List ℕ → Type 0
-Stopped text = (made : ℕ → Tree part) → Short (with_length made (tokens_of text))
-
--- or it has a length, and a token follows
-pub record Followed (text : List ℕ) (token : Token) (rest : List ℕ) : Type 0 where
-  pub long : ℕ
-  pub reads : (made : ℕ → Tree part) → with_length made (tokens_of text) ≡ got (made long) (token ∷ tokens_of rest)
-  pub shorter : length rest < length text
 
 -- whatever comes of the whole text, a part is taken there, or there is no tree
 abbrev pub TakenAt : Parsed → Option Place → Type 0

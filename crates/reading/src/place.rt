@@ -32,7 +32,7 @@ impl<'a> Place<'a> {
                     depth += 1;
                 }
                 Token::Number(_) => {
-                    let (token, rest) = follow(rest)?;
+                    let (_, token, rest) = follow(rest)?;
                     return Some(Place { token, rest, depth });
                 }
                 _ => return None,
@@ -48,7 +48,7 @@ impl<'a> Place<'a> {
         match self.token {
             Token::Comma => Place::past_taxon(self.rest, self.depth),
             Token::Close => {
-                let (token, rest) = follow(self.rest)?;
+                let (_, token, rest) = follow(self.rest)?;
                 let depth = self.depth - 1;
                 Some(Place { token, rest, depth })
             }

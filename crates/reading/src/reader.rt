@@ -9,7 +9,6 @@ use super::draft::Draft;
 use super::flaw::Flaw;
 use super::pairs::bad_pairs;
 use super::scan::{ends, is_tree};
-use newick::token::first_token;
 use outline::checker::check_records;
 use refusals::verdict::{Refusal, Verdict};
 use text::put_text;
@@ -21,8 +20,7 @@ fn draft_tree<'a>(text: &[u8], pairs: &'a [u32]) -> Result<Draft<'a>, Flaw>
     ensures { MatchResult result (TreeDrafted pairs.now text.now) (NotDrafted text.now) }
 {
     let mut draft = Draft::new(pairs);
-    let (part, rest) = draft.read_part(text)?;
-    let (token, rest) = first_token(rest).ok_or(Flaw::Malformed)?;
+    let (part, token, rest) = draft.read_part(text)?;
     if !ends(token, rest) {
         return Err(Flaw::Malformed);
     }

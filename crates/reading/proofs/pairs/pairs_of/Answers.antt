@@ -1,5 +1,5 @@
 -- `reading::pairs::pairs_of` meets its contract: each pair of the plate counts one, and there are fewer than 2 ^ 64.
-use Rattle.std.proofs.Common.{ℕ, List, length, cond, arith, rules, tests, ap, ◌∙◌}
+use Rattle.std.proofs.Common.{ℕ, List, cond, arith, rules, tests, ap, ◌∙◌}
 use Rattle.std.specs.Prelude.{count_by}
 use Rattle.std.proofs.lemmas.Iterator.{YieldsList-from_slice, YieldsList-from_map}
 use Rattle.std.proofs.lemmas.Iterator.Consumers.{sum_by_from_yields_List, fits_by_from_yields_list}

@@ -1,7 +1,7 @@
 use Rattle.std.proofs.Common.{refl, rules}
 use Rattle.std.proofs.lemmas.Result.{err_from_is_err_and}
 use Rattle.reading.proofs.Parts.{no_value, part_stops, part_nowhere, part_fails, head_taxon, head_group, group_unread}
-use Rattle.reading.proofs.Parts.{part_unfinished, part_finished, own_room, list_unread, list_nowhere, list_fails, list_ends, list_goes}
+use Rattle.reading.proofs.Parts.{part_unfinished, part_finished, own_room, list_unread, list_fails, list_ends, list_goes}
 use Rattle.reading.proofs.draft.Draft.+part_and_list.Goals as goal
 use Rattle.reading.proofs.draft.Draft.+part_and_list.Goals.{read_part-in-Number, read_part-in-Open+in_ok-read_list-in-Open}
 
@@ -30,7 +30,7 @@ read_part-returns-in_err-length t c =
     let p = err_from_is_err_and c.from_residual-in_err-length.result c.from_residual-in_err-length.ensures.1 in
     let none = c.in_err-length.ensures.ok_part in
     let m = rw c.in_ok-token.ensures.ok_part at c.first_token.ensures in
-    let l = rw none at c.length_at.ensures in
+    let l = rw none at c.follow.ensures in
     rw (p.1, p.2, no_value c.in_err-length.ensures.value none)
     (elim c.match-token.branch [
       | read_part-in-Number w ↦ part_unfinished (head_taxon c.in_ok-before.ensures m _ w.in-Number.is) (rw w.first-is at l)
@@ -41,7 +41,7 @@ read_part-returns-in_err-length t c =
 pub read_part-returns : goal.read_part-returns
 read_part-returns t c =
     let m = rw c.in_ok-token.ensures.ok_part at c.first_token.ensures in
-    let l = rw c.in_ok-length.ensures.ok_part at c.length_at.ensures in
+    let l = rw c.in_ok-length.ensures.ok_part at c.follow.ensures in
     elim c.match-token.branch [
       | read_part-in-Number w ↦
           rw (w.self-is, w.first-is) (part_finished (head_taxon c.in_ok-before.ensures m _ w.in-Number.is) (rw w.first-is at l))
@@ -55,12 +55,6 @@ pub read_list-returns-in_err-part : goal.read_list-returns-in_err-part
 read_list-returns-in_err-part t c =
     let p = err_from_is_err_and c.from_residual.result c.from_residual.ensures.1 in rw (p.1, p.2) (list_unread c.in_err-part.ensures)
 
-pub read_list-returns-in_err-token : goal.read_list-returns-in_err-token
-read_list-returns-in_err-token t c =
-    let p = err_from_is_err_and c.from_residual-in_err-token.result c.from_residual-in_err-token.ensures.1 in
-    let none = c.in_err-token.ensures.ok_part in
-    rw (p.1, p.2, no_value c.in_err-token.ensures.value none) (list_nowhere c.in_ok-part.ensures (rw none at c.first_token.ensures))
-
 pub read_list-draft_record-requires : goal.read_list-draft_record-requires
 read_list-draft_record-requires t c = own_room c.in_ok-part.ensures
 
@@ -69,13 +63,13 @@ read_list-draft_record-requires-in-Close t c = own_room c.in_ok-part.ensures
 
 pub read_list-returns-in-Comma : goal.read_list-returns-in-Comma
 read_list-returns-in-Comma t c =
-    list_goes c.in_ok-part.ensures (rw c.in_ok-token.ensures.ok_part at c.first_token.ensures) (search rules) c.draft_record.ensures c.in-Comma.is refl _ (λ rest. rest.now) _
+    list_goes c.in_ok-part.ensures (search rules) c.draft_record.ensures c.in-Comma.is refl _ (λ rest. rest.now) _
     c.read_list.ensures
 
 pub read_list-returns-in-Close : goal.read_list-returns-in-Close
 read_list-returns-in-Close t c =
-    list_ends c.in_ok-part.ensures (rw c.in_ok-token.ensures.ok_part at c.first_token.ensures) (search rules) c.draft_record-in-Close.ensures c.in-Close.is refl
+    list_ends c.in_ok-part.ensures (search rules) c.draft_record-in-Close.ensures c.in-Close.is refl
 
 pub read_list-returns-in_default : goal.read_list-returns-in_default
 read_list-returns-in_default t c =
-    list_fails c.in_ok-part.ensures (rw c.in_ok-token.ensures.ok_part at c.first_token.ensures) c.in_default.not-Comma c.in_default.not-Close
+    list_fails c.in_ok-part.ensures c.in_default.not-Comma c.in_default.not-Close
