@@ -38,14 +38,14 @@ module _ (f : ℕ → Tree part) (ws : List Word) (spelled : (l : ℕ) (ls : Lis
   number_reads =
       by_first (λ ts. Reads part (tokens_for ws ++ (Token.Colon ∷ ts)) (with_number f ts))
       bad (λ _. bad) (λ _. bad) (λ _. bad) (λ _. bad) (λ _. bad)
-      (λ l ts. good (ws ++ (colon ∷ number l ∷ [])) (spelled _ _ a_length) (simp (map-append, append_assoc))) (λ _. bad) (λ _. bad)
+      (λ l ts. good (ws ++ (colon ∷ number l ∷ [])) (spelled _ _ a_length) (simp (map-append, append_assoc))) (λ _. bad)
 
   length_reads : (ts : List Token) → Reads part (tokens_for ws ++ ts) (with_length f ts)
   unfolding with_length
   length_reads =
       by_first (λ ts. Reads part (tokens_for ws ++ ts) (with_length f ts))
       (without _) (λ _. without _) (λ _. without _) (λ _. without _) number_reads (λ _. without _)
-      (λ _ _. without _) (λ _. without _) (λ _. without _)
+      (λ _ _. without _) (λ _. without _)
 
 -- a bracketed list and its length
 group_reads : {all : List Token} {o : Outcome chain} → Reads chain all o → Reads part (Token.Open ∷ all) (grouped o)
@@ -61,7 +61,7 @@ module _ (f : List Token → Outcome chain) (lists : (ts : List Token) → Reads
   unfolding part_from token_for
   part_reads =
       by_first (λ ts. Reads part ts (part_from f ts)) bad (λ ts. group_reads (lists ts)) (λ _. bad) (λ _. bad) (λ _. bad) (λ _. bad)
-      (λ p. length_reads (taxon p) (number p ∷ []) (λ _ _. a_taxon)) (λ _. bad) (λ _. bad)
+      (λ p. length_reads (taxon p) (number p ∷ []) (λ _ _. a_taxon)) (λ _. bad)
 
   -- a comma and more of a list
   more_reads : {t : Tree part} {ws : List Word} {all ts : List Token} {o : Outcome chain} → Spelled part t ws
@@ -77,7 +77,7 @@ module _ (f : List Token → Outcome chain) (lists : (ts : List Token) → Reads
   unfolding chain_then
   then_reads {t} {ws} {all} s =
       by_first (λ ts. all ≡ tokens_for ws ++ ts → Reads chain all (chain_then f t ts)) (λ _. bad) (λ _ _. bad) (λ _ e. good ws (the_last s) e)
-      (λ ts e. more_reads s e (lists ts)) (λ _ _. bad) (λ _ _. bad) (λ _ _ _. bad) (λ _ _. bad) (λ _ _. bad)
+      (λ ts e. more_reads s e (lists ts)) (λ _ _. bad) (λ _ _. bad) (λ _ _ _. bad) (λ _ _. bad)
 
   chain_reads : {all : List Token} {o : Outcome part} → Reads part all o → Reads chain all (chain_from f o)
   chain_reads bad = bad
@@ -154,7 +154,7 @@ module _ (text : List ℕ) (short : length text ≤ most_bytes) where
   whole_reads (good {t} {rest} ws s e) =
       by_first (λ ts. tokens_of text ≡ tokens_for ws ++ ts → Reading text (if ends ts then tree t else unread))
       (λ _. no_tree) (λ _ _. no_tree) (λ _ _. no_tree) (λ _ _. no_tree) (λ _ _. no_tree) (end_reads ws s) (λ _ _ _. no_tree)
-      (λ _ _. no_tree) (λ _ _. no_tree) rest e
+      (λ _ _. no_tree) rest e
 
 reading : (text : List ℕ) → Reading text (parsed text)
 unfolding parsed grown

@@ -1,37 +1,37 @@
 -- The tokens of a text, byte by byte.
 use Prim.Native.Nat.{ℕ, zero, suc, ◌+◌, ◌*◌, ◌-◌, ◌^◌, ◌≤◌, ◌<◌}
 use mathlib.Core.Path.{◌≡◌, refl, sym, ap, subst, ◌∙◌}
-use mathlib.Core.Bool.{Bool, true, false, false≢true}
+use mathlib.Core.Bool.{Bool, true, false, cond, false≢true}
 use mathlib.Core.List.{List, [], ◌∷◌}
-use native.Mathlib.Numerals.{add-one}
+use native.Mathlib.Numerals.{add-one, one-add}
+use Rattle.std.proofs.Common.{add-zero}
 use native.Mathlib.Nat.{pow-succ', pow-le-pow_right}
 use native.Mathlib.Omega.{arith}
-use lib.ListN.{length, get_or, drop, drop_of_length-le}
-use lib.Seq.{drop-cons}
+use lib.ListN.{length, get_or, take, drop, length-drop, drop_of_length-le}
+use lib.Seq.{drop-cons, take_all, get_or-drop}
 use borrow.Author.Tests.{lt-ltb, le-ltb}
-use denote.Enum.Declared.{tag_of}
-use types.Run.{OneOf, miss}
+use Rattle.std.specs.Char.{is_ascii_digit}
+use Rattle.std.specs.List.{prefix_len}
+use Rattle.newick.proofs.Signs.{digit_test, digit_range}
 use Rattle.newick.specs.Parsing.{sign_of, digit_sign, is_digit, ended, tokens_by, tokens_from, tokens_of}
-use Rattle.newick.specs.Inner.{AtDigit, Met, token_of, before, least}
+use Rattle.newick.specs.Inner.{BeginsNumber, Met, token_of}
 use Rattle.newick.specs.declared.sign.Sign.{Sign}
 use Rattle.newick.specs.declared.token.Token.{Token}
-use Rattle.newick.specs.contracts.sign.Sign.{the_type}
 
 -- what holds of tokens, by the first of them
 abbrev pub First : (List Token → Type 0) → Token → Type 0
 First P t = (ts : List Token) → P (t ∷ ts)
 
 pub by_first : (P : List Token → Type 0) → P [] → First P Token.Open → First P Token.Close → First P Token.Comma → First P Token.Colon
-    → First P Token.Semicolon → ((v : ℕ) → First P (Token.Number v)) → First P Token.Other → First P Token.End → (ts : List Token) → P ts
-by_first P z o c k l s n x e [] = z
-by_first P z o c k l s n x e (Token.Open ∷ ts) = o ts
-by_first P z o c k l s n x e (Token.Close ∷ ts) = c ts
-by_first P z o c k l s n x e (Token.Comma ∷ ts) = k ts
-by_first P z o c k l s n x e (Token.Colon ∷ ts) = l ts
-by_first P z o c k l s n x e (Token.Semicolon ∷ ts) = s ts
-by_first P z o c k l s n x e (Token.Number v ∷ ts) = n v ts
-by_first P z o c k l s n x e (Token.Other ∷ ts) = x ts
-by_first P z o c k l s n x e (Token.End ∷ ts) = e ts
+    → First P Token.Semicolon → ((v : ℕ) → First P (Token.Number v)) → First P Token.Other → (ts : List Token) → P ts
+by_first P z o c k l s n x [] = z
+by_first P z o c k l s n x (Token.Open ∷ ts) = o ts
+by_first P z o c k l s n x (Token.Close ∷ ts) = c ts
+by_first P z o c k l s n x (Token.Comma ∷ ts) = k ts
+by_first P z o c k l s n x (Token.Colon ∷ ts) = l ts
+by_first P z o c k l s n x (Token.Semicolon ∷ ts) = s ts
+by_first P z o c k l s n x (Token.Number v ∷ ts) = n v ts
+by_first P z o c k l s n x (Token.Other ∷ ts) = x ts
 
 -- the byte at a place
 pub tokens_go : (text : List ℕ) (i c v : ℕ) → i < length text
@@ -45,11 +45,11 @@ unfolding tokens_from
 tokens_none text i c v h = rw (drop_of_length-le text h)
 
 -- the byte at a place, of a known class
-tokens_at : (text : List ℕ) (i : ℕ) (s t : Sign) → i < length text → s ≡ sign_of (get_or text i 0) → s ≡ t
-    → (inside : List Token) × (tokens_of (drop i text) ≡ tokens_by t 0 0 inside (tokens_of (drop (i + 1) text)))
-tokens_at text i s t h e b =
+tokens_at : (text : List ℕ) (i : ℕ) (s : Sign) → i < length text → s ≡ sign_of (get_or text i 0)
+    → (inside : List Token) × (tokens_of (drop i text) ≡ tokens_by s 0 0 inside (tokens_of (drop (i + 1) text)))
+tokens_at text i s h e =
     let inside = tokens_from 1 (10 * 0 + (get_or text i 0 - 48)) (drop (i + 1) text) in
-    (inside, tokens_go text i 0 0 h ∙ ap (λ u. tokens_by u 0 0 inside (tokens_of (drop (i + 1) text))) (sym e ∙ b))
+    (inside, tokens_go text i 0 0 h ∙ ap (λ u. tokens_by u 0 0 inside (tokens_of (drop (i + 1) text))) (sym e))
 
 -- a digit goes on with the number
 pub by_digit : (s : Sign) (c v : ℕ) (inside later : List Token) → digit_sign s ≡ true → tokens_by s c v inside later ≡ inside
@@ -88,154 +88,139 @@ pub number_ended : (c v : ℕ) (ts : List Token) → 1 ≤ c → c ≤ 9 → end
 number_ended zero v ts l u = absurd (omega arith)
 number_ended (suc c) v ts l u = rw (lt-ltb c 9 (omega arith))
 
--- a number of more digits is none
-pub too_long : (c v : ℕ) (s : List ℕ) → 10 ≤ c → (later : List Token) × (tokens_from c v s ≡ Token.Other ∷ later)
-unfolding tokens_from
-too_long zero v [] h = absurd (omega arith)
-too_long zero v (b ∷ s) h = absurd (omega arith)
-too_long (suc c) v [] h = ([], rw (le-ltb c 9 (omega arith)))
-too_long (suc c) v (b ∷ s) h = go (digit_sign (sign_of b)) refl (too_long (suc (suc c)) (10 * v + (b - 48)) s (omega arith))
-  where
-    go : (t : Bool) → is_digit b ≡ t
-        → (later : List Token) × (tokens_from (suc (suc c)) (10 * v + (b - 48)) s ≡ Token.Other ∷ later)
-        → (later : List Token) × (tokens_from (suc c) v (b ∷ s) ≡ Token.Other ∷ later)
-    go true e ih = (ih.0, by_digit (sign_of b) (suc c) v _ _ e ∙ ih.1)
-    go false e ih = (tokens_by (sign_of b) 0 0 [] (tokens_of s), by_other (sign_of b) (suc c) v _ [] _ e ∙ rw (le-ltb c 9 (omega arith)))
+-- one of more digits is none
+none_ended : (c v : ℕ) (ts : List Token) → 10 ≤ c → ended c v ts ≡ Token.Other ∷ ts
+none_ended zero v ts h = absurd (omega arith)
+none_ended (suc c) v ts h = rw (le-ltb c 9 (omega arith))
 
--- a number is read up to byte i: c digits, which make v
-pub record Counting (text : List ℕ) (at i c v : ℕ) : Type 0 where
-  pub high : i ≤ length text
-  pub place : i ≡ at + c
-  pub few : c ≤ 9
-  pub small : v < 10 ^ c
-  pub whole : tokens_of (drop at text) ≡ tokens_from c v (drop i text)
+-- and goes on as long as there are digits
+pub overlong : (c v : ℕ) (s : List ℕ) → 10 ≤ c + prefix_len is_ascii_digit s
+    → tokens_from c v s ≡ Token.Other ∷ tokens_of (drop (prefix_len is_ascii_digit s) s)
+unfolding tokens_from
+overlong c v [] h = none_ended c v [] (omega arith)
+overlong c v (b ∷ s) h = go (is_ascii_digit b) refl h (overlong (suc c) (10 * v + (b - 48)) s)
+  where
+    go : (t : Bool) → is_ascii_digit b ≡ t → 10 ≤ c + cond t (1 + prefix_len is_ascii_digit s) 0
+        → (10 ≤ suc c + prefix_len is_ascii_digit s → tokens_from (suc c) (10 * v + (b - 48)) s ≡ Token.Other ∷ tokens_of (drop (prefix_len is_ascii_digit s) s))
+        → tokens_from c v (b ∷ s) ≡ Token.Other ∷ tokens_of (drop (cond t (1 + prefix_len is_ascii_digit s) 0) (b ∷ s))
+    go true e h ih = by_digit (sign_of b) c v _ _ (sym (digit_test b) ∙ e) ∙ ih (omega arith) ∙ ap (λ n. Token.Other ∷ tokens_of (drop n (b ∷ s))) (sym (one-add (prefix_len is_ascii_digit s)))
+    go false e h ih =
+        by_other (sign_of b) c v _ _ _ (sym (digit_test b) ∙ e) ∙ none_ended c v (tokens_of (b ∷ s)) (omega arith)
+
+-- what is left of a text from a place on
+rest_from : (text : List ℕ) (i : ℕ) → take (length text - i) (drop i text) ≡ drop i text
+rest_from text i = take_all (length text - i) (drop i text) (rw length-drop (omega arith))
+
+-- the first i bytes of a text are digits, which make v
+pub record Counting (text : List ℕ) (i v : ℕ) : Type 0 where
+  pub few : i ≤ 9
+  pub small : v < 10 ^ i
+  pub whole : tokens_of text ≡ tokens_from i v (drop i text)
 
 pub small_value : (c v : ℕ) → c < 9 → v < 10 ^ c → v < 100000000
 small_value c v h l = let p : 10 ^ c ≤ 10 ^ 8 = pow-le-pow_right {n = 10} (omega arith) {i = c} {j = 8} (omega arith) in omega arith
 
-module _ {text : List ℕ} {at i c v : ℕ} (k : Counting text at i c v) where
-  pub counting_goes : i < length text → is_digit (get_or text i 0) ≡ true → get_or text i 0 ≤ 57 → c < 9
-      → Counting text at (i + 1) (c + 1) (10 * v + (get_or text i 0 - 48))
-  counting_goes h d u l =
-      let e : 10 ^ suc c ≡ 10 * 10 ^ c = pow-succ' 10 c in
+met_from : {text : List ℕ} {t : Token} (i : ℕ) → Met text t (drop i text) → Met text t (take (length text - i) (drop i text))
+met_from {text} {t} i m = subst (Met text t) (sym (rest_from text i)) m
+
+module _ {text : List ℕ} {i v : ℕ} (k : Counting text i v) (h : i < length text) where
+  abbrev left : List ℕ
+  left = take (length text - i) (drop i text)
+
+  digit : {b : Bool} → is_ascii_digit (get_or text i 0) ≡ b → is_digit (get_or text i 0) ≡ b
+  digit e = sym (digit_test (get_or text i 0)) ∙ e
+
+  -- the next byte is a digit, and there is room for it
+  pub counting_goes : is_ascii_digit (get_or text i 0) ≡ true → i < 9 → Counting text (i + 1) (10 * v + (get_or text i 0 - 48))
+  counting_goes d l =
+      let e : 10 ^ suc i ≡ 10 * 10 ^ i = pow-succ' 10 i in
       record {
-        high = omega arith;
-        place = omega (arith, k.place);
         few = omega arith;
-        small = rw add-one (omega (arith, e, k.small));
-        whole = rw add-one (k.whole ∙ digit_goes text i c v h d);
+        small = rw add-one (omega (arith, e, k.small, (digit_range (get_or text i 0) (digit d)).high));
+        whole = rw add-one (k.whole ∙ rw add-one at (digit_goes text i i v h (digit d)));
       }
 
-  some_digit : AtDigit text at → i < length text → is_digit (get_or text i 0) ≡ false → 1 ≤ c
-  some_digit d h e = go c refl
+  -- it is none
+  pub counting_ends : BeginsNumber text → is_ascii_digit (get_or text i 0) ≡ false
+      → Met text (Token.Number v) left
+  counting_ends d e =
+      let some : 1 ≤ i = go i refl in
+      met_from i
+      record {
+        shows = k.whole ∙ other_ends text i i v h (digit e) ∙ number_ended i v _ some k.few;
+        shorter = rw length-drop (omega arith);
+      }
     where
-      go : (m : ℕ) → c ≡ m → 1 ≤ c
-      go zero z =
-          let same : i ≡ at = omega (arith, k.place) in
-          absurd (false≢true (sym e ∙ ap (λ j. is_digit (get_or text j 0)) same ∙ d.digit))
+      go : (m : ℕ) → i ≡ m → 1 ≤ i
+      go zero z = absurd (false≢true (sym (digit e) ∙ ap (λ j. is_digit (get_or text j 0)) z ∙ d.digit))
       go (suc m) z = omega arith
 
-  -- the next byte is no digit
-  pub counting_ends : AtDigit text at → i < length text → is_digit (get_or text i 0) ≡ false
-      → Met text at (Token.Number v) i
-  counting_ends d h e =
-      let some : 1 ≤ c = some_digit d h e in
+  -- it is a tenth digit
+  pub counting_fails : is_ascii_digit (get_or text i 0) ≡ true → i ≡ 9 → {n : ℕ} → n ≡ prefix_len is_ascii_digit left
+      → Met text Token.Other (take (length left - n) (drop n left))
+  counting_fails d z {n} e =
+      let r = rest_from text i in
+      let some : 1 ≤ n =
+      rw (e, r, drop-cons text i 0 h) (subst (λ t. 1 ≤ cond t (1 + prefix_len is_ascii_digit (drop (suc i) text)) 0) (sym d) (omega arith)) in
+      subst (Met text Token.Other) (sym (rest_from left n))
       record {
-        later = tokens_of (drop i text);
-        shows =
-            k.whole ∙ other_ends text i c v h e ∙ number_ended c v _ some k.few;
-        follows = λ _. refl;
-        moved = omega (arith, k.place, some);
-        within = k.high;
+        shows = k.whole ∙ ap (tokens_from i v) (sym r) ∙ overlong i v left (omega arith) ∙ ap (λ m. Token.Other ∷ tokens_of (drop m left)) (sym e);
+        shorter = rw length-drop (omega (arith, ap length r, length-drop i text));
       }
 
-  -- the text ends
-  pub counting_last : AtDigit text at → length text ≤ i → Met text at (Token.Number v) i
-  counting_last d h =
-      let some : 1 ≤ c = omega (arith, k.place, d.inside) in
-      record {
-        later = tokens_of (drop i text);
-        shows =
-            k.whole ∙ tokens_none text i c v h ∙ number_ended c v [] some k.few
-            ∙ ap (λ ts. Token.Number v ∷ ts) (sym (tokens_none text i 0 0 h));
-        follows = λ _. refl;
-        moved = omega (arith, k.place, some);
-        within = k.high;
-      }
+-- the text ends
+pub counting_last : {text : List ℕ} {i v : ℕ} → Counting text i v → length text ≤ i → 0 < length text → Met text (Token.Number v) []
+unfolding tokens_from
+counting_last {text} {i} {v} k end some =
+    record { shows = k.whole ∙ tokens_none text i i v end ∙ number_ended i v [] (omega arith) k.few; shorter = some }
 
-  -- a tenth digit
-  pub counting_fails : i < length text → is_digit (get_or text i 0) ≡ true → c ≡ 9
-      → Met text at Token.Other i
-  counting_fails h e z =
-      let long = too_long (suc c) (10 * v + (get_or text i 0 - 48)) (drop (i + 1) text) (omega arith) in
-      record {
-        later = long.0;
-        shows = k.whole ∙ digit_goes text i c v h e ∙ long.1;
-        follows = λ l. absurd (omega arith);
-        moved = omega (arith, k.place);
-        within = k.high;
-      }
+-- ---- the first token
+
+-- the first i bytes of a text are blanks
+pub record Skipping (text : List ℕ) (i : ℕ) : Type 0 where
+  pub whole : tokens_of text ≡ tokens_of (drop i text)
+
+pub skipping_ends : {text : List ℕ} {i : ℕ} → Skipping text i → length text ≤ i → tokens_of text ≡ []
+skipping_ends {text} {i} k end = k.whole ∙ tokens_none text i 0 0 end
 
 -- a sign that is a token by itself
-abbrev pub alone : List ℕ
-alone = 0 ∷ 1 ∷ 2 ∷ 3 ∷ 4 ∷ 7 ∷ []
+alone_token : (s : Sign) (inside later : List Token) → (s ≡ Sign.Blank → ⊥) → (s ≡ Sign.Digit → ⊥)
+    → tokens_by s 0 0 inside later ≡ token_of s ∷ later
+alone_token Sign.Open inside later b d = refl
+alone_token Sign.Close inside later b d = refl
+alone_token Sign.Comma inside later b d = refl
+alone_token Sign.Colon inside later b d = refl
+alone_token Sign.Semicolon inside later b d = refl
+alone_token Sign.Digit inside later b d = absurd (d refl)
+alone_token Sign.Blank inside later b d = absurd (b refl)
+alone_token Sign.Other inside later b d = refl
 
-alone_token : (s : Sign) (inside later : List Token) → OneOf alone (tag_of the_type s) → tokens_by s 0 0 inside later ≡ before (token_of s) later
-alone_token Sign.Open inside later o = refl
-alone_token Sign.Close inside later o = refl
-alone_token Sign.Comma inside later o = refl
-alone_token Sign.Colon inside later o = refl
-alone_token Sign.Semicolon inside later o = refl
-alone_token Sign.Digit inside later o = absurd (miss alone 5 tt o)
-alone_token Sign.Blank inside later o = absurd (miss alone 6 tt o)
-alone_token Sign.Other inside later o = refl
+module _ {text : List ℕ} {i : ℕ} (k : Skipping text i) (h : i < length text) where
+  abbrev here : Sign
+  here = sign_of (get_or text i 0)
 
-alone_short : (s : Sign) → least (token_of s) ≤ 1
-alone_short Sign.Open = omega arith
-alone_short Sign.Close = omega arith
-alone_short Sign.Comma = omega arith
-alone_short Sign.Colon = omega arith
-alone_short Sign.Semicolon = omega arith
-alone_short Sign.Digit = omega arith
-alone_short Sign.Blank = omega arith
-alone_short Sign.Other = omega arith
+  pub skipping_goes : Sign.Blank ≡ here → Skipping text (i + 1)
+  skipping_goes e = record { whole = k.whole ∙ (tokens_at text i Sign.Blank h e).1 }
 
--- blanks are passed
-pub record Skipping (text : List ℕ) (at i : ℕ) : Type 0 where
-  pub low : at ≤ i
-  pub high : i ≤ length text
-  pub whole : tokens_of (drop at text) ≡ tokens_of (drop i text)
+  -- a number begins here
+  pub skipping_begins : Sign.Digit ≡ here → BeginsNumber (take (length text - i) (drop i text))
+  skipping_begins e =
+      rw (rest_from text i)
+      record { inside = rw length-drop (omega arith); digit = rw (get_or-drop, add-zero) (ap digit_sign (sym e)) }
 
-module _ {text : List ℕ} {at i : ℕ} (k : Skipping text at i) where
-  pub skipping_ends : length text ≤ i → Met text at Token.End i
-  skipping_ends h =
+  pub skipping_number : {t : Token} {rest : List ℕ} → Met (take (length text - i) (drop i text)) t rest → Met text t rest
+  skipping_number m =
       record {
-        later = [];
-        shows = k.whole ∙ tokens_none text i 0 0 h;
-        follows = λ l. absurd (omega arith);
-        moved = omega (arith, k.low);
-        within = k.high;
+        shows = k.whole ∙ ap tokens_of (sym (rest_from text i)) ∙ m.shows;
+        shorter = omega (arith, m.shorter, ap length (rest_from text i), length-drop i text);
       }
 
-  module _ (h : i < length text) where
-    pub skipping_goes : {s : Sign} → s ≡ sign_of (get_or text i 0) → s ≡ Sign.Blank → Skipping text at (i + 1)
-    skipping_goes e b =
-        record {
-          low = omega (arith, k.low);
-          high = omega arith;
-          whole = k.whole ∙ (tokens_at text i _ Sign.Blank h e b).1;
-        }
-
-    pub skipping_meets : {s : Sign} → s ≡ sign_of (get_or text i 0) → OneOf alone (tag_of the_type s) → {t : Token} → t ≡ token_of s
-        → Met text at t (i + 1)
-    skipping_meets {s} e o {t} f =
-        let w = tokens_at text i s s h e refl in
-        let short = alone_short s in
-        subst (λ (u : Token). Met text at u (i + 1)) (sym f)
-        record {
-          later = tokens_of (drop (i + 1) text);
-          shows = k.whole ∙ w.1 ∙ alone_token s w.0 (tokens_of (drop (i + 1) text)) o;
-          follows = λ _. refl;
-          moved = omega (arith, k.low);
-          within = omega arith;
-        }
+  pub skipping_meets : {s : Sign} → s ≡ here → (s ≡ Sign.Blank → ⊥) → (s ≡ Sign.Digit → ⊥) → {t : Token} → t ≡ token_of s
+      → Met text t (take (length text - (i + 1)) (drop (i + 1) text))
+  skipping_meets {s} e b d {t} f =
+      let w = tokens_at text i s h e in
+      met_from (i + 1)
+      record {
+        shows = k.whole ∙ w.1 ∙ alone_token s w.0 (tokens_of (drop (i + 1) text)) b d ∙ ap (λ u. u ∷ tokens_of (drop (i + 1) text)) (sym f);
+        shorter = rw length-drop (omega arith);
+      }

@@ -43,7 +43,6 @@ word_for Token.Colon = colon ∷ []
 word_for Token.Semicolon = semicolon ∷ []
 word_for (Token.Number v) = number v ∷ []
 word_for Token.Other = []
-word_for Token.End = []
 
 word_back : (w : Word) → word_for (token_for w) ≡ w ∷ []
 unfolding token_for word_for

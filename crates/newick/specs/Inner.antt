@@ -1,5 +1,5 @@
 -- What the code and the arguments on texts speak of: tokens, the plates of an outline, and trees whose numbers can be spelled.
-use Rattle.std.specs.Prelude.{if◌then◌else◌, ℕ, ◌+◌, ◌≤◌, ◌<◌, ◌≡◌, true, List, [], ◌∷◌, length, get_or, drop}
+use Rattle.std.specs.Prelude.{if◌then◌else◌, ℕ, ◌≤◌, ◌<◌, ◌≡◌, true, List, [], ◌∷◌, length, get_or}
 use Rattle.outline.specs.Outline.{records, plate, is_taxon}
 use Rattle.newick.specs.Grammar.{Kind, part, chain, Tree, taxon, group, last, more, most_number}
 use Rattle.newick.specs.Parsing.{tokens_of, is_digit}
@@ -8,10 +8,10 @@ use Rattle.newick.specs.declared.token.Token.{Token}
 
 -- ---- tokens
 
--- a digit stands at a place
-pub record AtDigit (text : List ℕ) (at : ℕ) : Type 0 where
-  pub inside : at < length text
-  pub digit : is_digit (get_or text at 0) ≡ true
+-- a text begins with a digit
+pub record BeginsNumber (text : List ℕ) : Type 0 where
+  pub inside : 0 < length text
+  pub digit : is_digit (get_or text 0 0) ≡ true
 
 -- the token of a sign that is one by itself
 abbrev pub token_of : Sign → Token
@@ -24,39 +24,10 @@ token_of Sign.Digit = Token.Other
 token_of Sign.Blank = Token.Other
 token_of Sign.Other = Token.Other
 
--- the tokens of what is left of a text
-abbrev pub ahead : List ℕ → ℕ → List Token
-ahead text at = tokens_of (drop at text)
-
--- a token before others; at the end there is none
-abbrev pub before : Token → List Token → List Token
-before Token.Open ts = Token.Open ∷ ts
-before Token.Close ts = Token.Close ∷ ts
-before Token.Comma ts = Token.Comma ∷ ts
-before Token.Colon ts = Token.Colon ∷ ts
-before Token.Semicolon ts = Token.Semicolon ∷ ts
-before (Token.Number v) ts = Token.Number v ∷ ts
-before Token.Other ts = Token.Other ∷ ts
-before Token.End ts = []
-
--- how many bytes a token has at least
-abbrev pub least : Token → ℕ
-least Token.Open = 1
-least Token.Close = 1
-least Token.Comma = 1
-least Token.Colon = 1
-least Token.Semicolon = 1
-least (Token.Number v) = 1
-least Token.Other = 0
-least Token.End = 0
-
--- the first token of what is left of a text, and the place after it
-pub record Met (text : List ℕ) (at : ℕ) (token : Token) (end : ℕ) : Type 0 where
-  pub later : List Token
-  pub shows : ahead text at ≡ before token later
-  pub follows : (0 < least token → later ≡ ahead text end)
-  pub moved : at + least token ≤ end
-  pub within : end ≤ length text
+-- the first token of a text, and what is left after it
+pub record Met (text : List ℕ) (token : Token) (rest : List ℕ) : Type 0 where
+  pub shows : tokens_of text ≡ token ∷ tokens_of rest
+  pub shorter : length rest < length text
 
 -- ---- plates
 

@@ -70,7 +70,6 @@ with_number f (Token.Colon ∷ ts) = failed
 with_number f (Token.Semicolon ∷ ts) = failed
 with_number f (Token.Number l ∷ ts) = got (f l) ts
 with_number f (Token.Other ∷ ts) = failed
-with_number f (Token.End ∷ ts) = failed
 
 -- a part but for its length, which is 0 where no colon follows
 unfoldable pub with_length : (ℕ → Tree part) → List Token → Outcome part
@@ -82,7 +81,6 @@ with_length f (Token.Colon ∷ ts) = with_number f ts
 with_length f (Token.Semicolon ∷ ts) = got (f 0) (Token.Semicolon ∷ ts)
 with_length f (Token.Number l ∷ ts) = got (f 0) (Token.Number l ∷ ts)
 with_length f (Token.Other ∷ ts) = got (f 0) (Token.Other ∷ ts)
-with_length f (Token.End ∷ ts) = got (f 0) (Token.End ∷ ts)
 
 -- a list that was read as a group, with its length
 abbrev pub grouped : Outcome chain → Outcome part
@@ -99,7 +97,6 @@ part_from f (Token.Colon ∷ ts) = failed
 part_from f (Token.Semicolon ∷ ts) = failed
 part_from f (Token.Number p ∷ ts) = with_length (taxon p) ts
 part_from f (Token.Other ∷ ts) = failed
-part_from f (Token.End ∷ ts) = failed
 
 -- a member before the rest of its list
 abbrev pub joined : Tree part → Outcome chain → Outcome chain
@@ -116,7 +113,6 @@ chain_then f t (Token.Colon ∷ ts) = failed
 chain_then f t (Token.Semicolon ∷ ts) = failed
 chain_then f t (Token.Number l ∷ ts) = failed
 chain_then f t (Token.Other ∷ ts) = failed
-chain_then f t (Token.End ∷ ts) = failed
 
 -- a list, from its first member on
 abbrev pub chain_from : (List Token → Outcome chain) → Outcome part → Outcome chain
@@ -144,7 +140,6 @@ ends (Token.Colon ∷ ts) = false
 ends (Token.Semicolon ∷ ts) = nothing ts
 ends (Token.Number l ∷ ts) = false
 ends (Token.Other ∷ ts) = false
-ends (Token.End ∷ ts) = false
 
 -- the tree of a text, if it has one
 pub data Parsed : Type 0 where

@@ -1,15 +1,17 @@
 // The tokens of a text, one by one: a sign, or a number of 1 to 9 digits.
-ghost use Rattle.std.specs.Prelude.{◌≡◌, ◌≤◌, length};
-ghost use Rattle.newick.specs.Parsing.{is_digit};
-ghost use Rattle.newick.specs.Inner.{Met, AtDigit, token_of};
+ghost use Rattle.std.specs.Prelude.{◌≡◌, ◌≤◌, [], length, MatchOption};
+ghost use Rattle.std.specs.Char.{is_ascii_digit};
+ghost use Rattle.std.specs.List.{prefix_len};
+ghost use Rattle.newick.specs.Parsing.{tokens_of};
+ghost use Rattle.newick.specs.Inner.{Met, BeginsNumber};
 
-use super::sign::{Sign, sign_of};
+use super::sign::Sign;
 
 // A number has at most so many digits.
 const MOST_DIGITS: usize = 9;
 
-// A word of a text, a byte that no tree can contain, or the end.
-#[derive(Drop)]
+// A word of a text, or a piece of it that no tree can contain.
+#[derive(Clone, Copy, Debug, PartialEq, Eq)]
 pub enum Token {
     Open,
     Close,
@@ -18,90 +20,64 @@ pub enum Token {
     Semicolon,
     Number(u32),
     Other,
-    End,
 }
 
-// A token, and the place after it.
-#[derive(Drop)]
-pub struct Found {
-    pub token: Token,
-    pub end: usize,
-}
+// A sign that is a token by itself; a digit and a blank are none.
+impl From<Sign> for Token {
+    ghost use Rattle.newick.specs.Inner.{token_of};
 
-// Whether a byte is a digit.
-fn is_digit(byte: u8) -> bool
-    ensures { result ≡ is_digit byte }
-{
-    (b'0' <= byte) & (byte <= b'9')
-}
+    ghost from_gives = { λ sign token. token ≡ token_of sign };
 
-// The number whose first digit stands at a place. A tenth digit is no part of a tree.
-fn number_at(text: &[u8], at: usize) -> Found
-    requires { AtDigit text.now at }
-    ensures { Met text.now at result.token result.end }
-{
-    let mut i = at;
-    let mut digits = 0;
-    let mut value: u32 = 0;
-    while i < text.len() {
-        let byte = text[i];
-        if !is_digit(byte) {
-            return Found {
-                token: Token::Number(value),
-                end: i,
-            };
-        }
-        if digits == MOST_DIGITS {
-            return Found {
-                token: Token::Other,
-                end: i,
-            };
-        }
-        value = 10 * value + (byte - b'0') as u32;
-        digits += 1;
-        i += 1;
-    }
-    Found {
-        token: Token::Number(value),
-        end: i,
-    }
-}
-
-// The token of a sign that is one by itself.
-fn token_of(sign: Sign) -> Token
-    ensures { result ≡ token_of sign }
-{
-    match sign {
-        Sign::Open => Token::Open,
-        Sign::Close => Token::Close,
-        Sign::Comma => Token::Comma,
-        Sign::Colon => Token::Colon,
-        Sign::Semicolon => Token::Semicolon,
-        _ => Token::Other,
-    }
-}
-
-// The first token from a place on, past the blanks before it.
-pub fn token_at(text: &[u8], at: usize) -> Found
-    requires { at ≤ length text.now }
-    ensures { Met text.now at result.token result.end }
-{
-    let mut i = at;
-    while i < text.len() {
-        let sign = sign_of(text[i]);
+    fn from(sign: Sign) -> Token {
         match sign {
-            Sign::Blank => i += 1,
-            Sign::Digit => return number_at(text, i),
-            _ => {
-                return Found {
-                    token: token_of(sign),
-                    end: i + 1,
-                };
-            }
+            Sign::Open => Token::Open,
+            Sign::Close => Token::Close,
+            Sign::Comma => Token::Comma,
+            Sign::Colon => Token::Colon,
+            Sign::Semicolon => Token::Semicolon,
+            _ => Token::Other,
         }
     }
-    Found {
-        token: Token::End,
-        end: i,
+}
+
+// How many digits a text begins with.
+fn leading_digits(text: &[u8]) -> usize
+    ensures count { result ≡ prefix_len is_ascii_digit text.now }
+    ensures within { result ≤ length text.now }
+{
+    text.iter().take_while(|byte| byte.is_ascii_digit()).count()
+}
+
+// The number that a text begins with, and what is left after it. One of ten digits or more is no part of a tree.
+fn first_number(text: &[u8]) -> (Token, &[u8])
+    requires { BeginsNumber text.now }
+    ensures { Met text.now result.0 result.1.now }
+{
+    let mut value: u32 = 0;
+    for (i, byte) in text.iter().enumerate() {
+        if !byte.is_ascii_digit() {
+            return (Token::Number(value), &text[i..]);
+        }
+        if i == MOST_DIGITS {
+            let rest = &text[i..];
+            return (Token::Other, &rest[leading_digits(rest)..]);
+        }
+        value = 10 * value + (*byte - b'0') as u32;
     }
+    (Token::Number(value), &[])
+}
+
+// The first token of a text, past the blanks before it, and what is left after it.
+pub fn first_token(text: &[u8]) -> Option<(Token, &[u8])>
+    ensures { MatchOption result (tokens_of text.now ≡ []) (λ found. Met text.now found.0 found.1.now) }
+{
+    for (i, byte) in text.iter().enumerate() {
+        let sign = Sign::from(*byte);
+        match sign {
+            Sign::Blank => {}
+            Sign::Digit => return Some(first_number(&text[i..])),
+            _ => return Some((Token::from(sign), &text[i + 1..])),
+        }
+    }
+    None
 }

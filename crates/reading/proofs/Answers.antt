@@ -23,8 +23,9 @@ use Rattle.newick.specs.Parsing.{Parsed, unread, tree, grown, parsed}
 use Rattle.reading.specs.Scan.{is_tree}
 use Rattle.reading.specs.Answer.{call, Figures, counted, told, rows_for, judged, reply, outline_after, Answered}
 use Rattle.newick.specs.Inner.{plates_of}
-use Rattle.reading.specs.Inner.{TreeRead, tree_bad, tree_many, tree_read, place_rows, TreePlaced}
-use Rattle.reading.specs.declared.reader.Draft.{Draft}
+use Rattle.reading.specs.Inner.{TreeDrafted, NotDrafted, no_tree, large_tree, place_rows, TreePlaced}
+use Rattle.reading.specs.declared.draft.Draft.{Draft}
+use Rattle.reading.specs.declared.flaw.Flaw.{Flaw}
 use Rattle.newick.proofs.Regrown.{layout_plates}
 use Rattle.newick.proofs.Ranges.{spells_in_range}
 use Rattle.newick.proofs.Layouts.{rows_length}
@@ -116,14 +117,13 @@ module _ (text pairs outline : List ℕ) where
   long_answered h = unread_answered (parsed_long text h)
 
   module _ (h : length text ≤ most_bytes) where
-    pub bad_answered : {draft after : List ℕ} → TreeRead pairs text draft after Draft.Bad
-        → Answered (call text pairs outline) (told (Err Refusal.BadText)) outline
-    bad_answered (tree_bad e) = unread_answered (parsed_short text h ∙ e)
+    pub bad_answered : NotDrafted text Flaw.Malformed → Answered (call text pairs outline) (told (Err Refusal.BadText)) outline
+    bad_answered (no_tree e) = unread_answered (parsed_short text h ∙ e)
 
     -- more records than 127 begin: a tree of too many, or none
-    pub many_answered : {draft after : List ℕ} → TreeRead pairs text draft after Draft.Many → true ≡ is_tree (grown text)
+    pub many_answered : NotDrafted text Flaw.TooMany → true ≡ is_tree (grown text)
         → Answered (call text pairs outline) (told (Err Refusal.TooManyRecords)) outline
-    many_answered (tree_many g) f = go (grown text) refl f
+    many_answered (large_tree g) f = go (grown text) refl f
       where
         go : (p : Parsed) → grown text ≡ p → true ≡ is_tree p → Answered (call text pairs outline) (told (Err Refusal.TooManyRecords)) outline
         go unread e f = absurd (false≢true (sym f))
@@ -137,13 +137,15 @@ module _ (text pairs outline : List ℕ) where
         go (tree t) e f = absurd (false≢true f)
 
     -- a tree of few records, judged and written
-    pub placed_answered : {draft after : List ℕ} {n : ℕ} {r : Reply Figures} {left : List ℕ} → TreeRead pairs text draft after (Draft.Read n)
-        → TreePlaced (take (16 * n) after) pairs outline r left → Answered (call text pairs outline) r left
+    pub placed_answered : {d : Draft} {r : Reply Figures} {left : List ℕ} → TreeDrafted pairs text d
+        → TreePlaced (take (16 * d.records) d.bytes) pairs outline r left → Answered (call text pairs outline) r left
     unfolding judged reply outline_after
-    placed_answered {draft} {after} {n} {r} {left} (tree_read t e c k d) w =
-        let p : parsed text ≡ tree t = parsed_short text h ∙ e in
-        let w' : TreePlaced (layout (price_in pairs) t) pairs outline r left = subst (λ o. TreePlaced o pairs outline r left) (begins pairs draft after n t c d) w in
+    placed_answered {d} {r} {left} k w =
+        let t = k.tree_of in
+        let p : parsed text ≡ tree t = parsed_short text h ∙ k.grown_is in
+        let w' : TreePlaced (layout (price_in pairs) t) pairs outline r left =
+        subst (λ o. TreePlaced o pairs outline r left) (begins pairs k.drafted.0 d.bytes d.records t k.counted k.drafted.2) w in
         record {
-          told_reply = rw (p, rows_placed text t pairs (length outline) p (omega arith), ← layout_size (price_in pairs) t) w'.told_placed;
-          outline_written = rw (p, rows_placed text t pairs (length outline) p (omega arith)) w'.outline_placed;
+          told_reply = rw (p, rows_placed text t pairs (length outline) p (omega (arith, k.counted, d.few)), ← layout_size (price_in pairs) t) w'.told_placed;
+          outline_written = rw (p, rows_placed text t pairs (length outline) p (omega (arith, k.counted, d.few))) w'.outline_placed;
         }

@@ -1,61 +1,73 @@
 -- The whole tree, from the part at the beginning of a text.
 use Rattle.std.specs.Prelude.{if◌then◌else◌}
 use Prim.Native.Nat.{ℕ, ◌+◌, ◌*◌}
-use mathlib.Core.Path.{◌≡◌, sym, ap, subst, ◌∙◌}
+use mathlib.Core.Path.{◌≡◌, refl, sym, ap, subst, ◌∙◌}
 use mathlib.Core.Bool.{Bool, true, false}
-use mathlib.Core.List.{List}
+use mathlib.Core.List.{List, ◌∷◌}
 use native.Mathlib.Omega.{arith}
 use lib.ListN.{length}
 use Rattle.newick.specs.Grammar.{part, Tree}
 use Rattle.newick.specs.Layout.{layout}
 use Rattle.newick.specs.Parsing.{tokens_of, ends, Outcome, got, read_in, closed, unread, tree, grown}
-use Rattle.newick.specs.Inner.{ahead}
-use Rattle.reading.specs.Inner.{IfGot, if_failed, if_got, draft_size, drafted, PartRead, part_bad, part_many, part_read, TreeRead, tree_bad, tree_many, tree_read}
-use Rattle.reading.specs.declared.cursor.Cursor.{Cursor}
-use Rattle.reading.specs.declared.part.Part.{Part}
-use Rattle.reading.specs.declared.reader.Draft.{Draft}
+use Rattle.outline.specs.Rules.{most_records}
+use Rattle.newick.specs.declared.token.Token.{Token}
+use Rattle.reading.specs.Inner.{IfGot, if_failed, if_got, Fresh, Drafted, Short, short_failed, short_ended, Unread, unread_bad, unread_many, PartRead, TreeDrafted, NotDrafted, no_tree, large_tree}
+use Rattle.reading.specs.declared.draft.Draft.{Draft}
+use Rattle.reading.specs.declared.draft.Part.{Part}
+use Rattle.reading.specs.declared.flaw.Flaw.{Flaw}
 use Rattle.reading.proofs.Drafts.{own_drafted}
 
--- the cursor at the beginning
-abbrev pub origin : Cursor
-origin = record { at = 0; records = 0 }
-
-pub no_tree : {t : Tree part} {A : Type 0} → unread ≡ tree t → A
-no_tree e = let z : ◌≡◌ {A = ℕ} 0 1 = cc in absurd (omega arith)
+not_grown : {t : Tree part} {A : Type 0} → unread ≡ tree t → A
+not_grown e = let z : ◌≡◌ {A = ℕ} 0 1 = cc in absurd (omega arith)
 
 -- what holds of the part at the beginning holds of the tree
 closed_if : {P : Tree part → Type 0} {o : Outcome part} (t : Tree part) → IfGot P o → closed o ≡ tree t → P t
-closed_if t if_failed e = no_tree e
+closed_if t if_failed e = not_grown e
 closed_if {P} t (if_got {t = u} {ts = ts} q) e = go (ends ts) e
   where
     go : (b : Bool) → (if b then tree u else unread) ≡ tree t → P t
     go true e = let is : u ≡ t = cc in subst P is q
-    go false e = no_tree e
+    go false e = not_grown e
 
 -- a part is the tree, if a semicolon ends it
-closes : (text : List ℕ) (at : ℕ) (t : Tree part) → read_in (2 * length text + 1) part (tokens_of text) ≡ got t (ahead text at) → (b : Bool)
-    → b ≡ ends (ahead text at) → grown text ≡ (if b then tree t else unread)
+closes : (text : List ℕ) (ts : List Token) (t : Tree part) → read_in (2 * length text + 1) part (tokens_of text) ≡ got t ts → (b : Bool)
+    → b ≡ ends ts → grown text ≡ (if b then tree t else unread)
 unfolding grown
-closes text at t e b f = ap closed e ∙ ap (λ c. if c then tree t else unread) (sym f)
+closes text ts t e b f = ap closed e ∙ ap (λ c. if c then tree t else unread) (sym f)
 
-module _ {pairs text draft : List ℕ} where
-  pub tree_fails : {mid after : List ℕ} → PartRead pairs text origin draft mid Part.Bad → TreeRead pairs text draft after Draft.Bad
-  unfolding grown
-  tree_fails (part_bad g) = tree_bad (ap closed (g (2 * length text + 1) (omega arith)))
+-- a short part is no tree
+closed_short : {o : Outcome part} → Short o → closed o ≡ unread
+unfolding ends
+closed_short short_failed = refl
+closed_short short_ended = refl
 
-  pub tree_overflows : {mid after : List ℕ} → PartRead pairs text origin draft mid Part.Many → TreeRead pairs text draft after Draft.Many
-  unfolding grown
-  tree_overflows (part_many g) = tree_many (λ t e. omega (arith, closed_if t (g (2 * length text + 1) (omega arith)) e))
+pub tree_unread : {k : ℕ} {text : List ℕ} {flaw : Flaw} → Unread part Short k text flaw → k ≡ 0 → NotDrafted text flaw
+unfolding grown
+tree_unread {text = text} (unread_bad g) z = no_tree (closed_short (g (2 * length text + 1) (omega arith)))
+tree_unread {text = text} (unread_many g) z = large_tree (λ t e. omega (arith, closed_if t (g (2 * length text + 1) (omega arith)) e))
 
-  module _ (long : length draft ≡ draft_size) {to : Cursor} {first branch plate : ℕ} {mid : List ℕ} where
-    -- no semicolon ends it
-    pub tree_open : {after : List ℕ} → PartRead pairs text origin draft mid (Part.Read to first branch plate) → false ≡ ends (ahead text to.at)
-        → TreeRead pairs text draft after Draft.Bad
-    tree_open (part_read t o) f = tree_bad (closes text to.at t (o.reads (2 * length text + 1) (omega arith)) false f)
+module _ {pairs text rest : List ℕ} {start mid : Draft} {p : Part} {token : Token} (f : Fresh pairs start)
+    (o : PartRead start mid text p token rest) where
+  closes_by : (b : Bool) → b ≡ ends (token ∷ tokens_of rest) → grown text ≡ (if b then tree o.tree else unread)
+  closes_by = closes text (token ∷ tokens_of rest) o.tree (o.read.reads (2 * length text + 1) (omega arith))
 
-    pub tree_reads : {after : List ℕ} → PartRead pairs text origin draft mid (Part.Read to first branch plate) → true ≡ ends (ahead text to.at)
-        → after ≡ drafted pairs 0 0 first branch plate mid → TreeRead pairs text draft after (Draft.Read to.records)
-    unfolding layout
-    tree_reads (part_read t o) f d =
-        tree_read {n = to.records} t (closes text to.at t (o.reads (2 * length text + 1) (omega arith)) true f) (omega (arith, o.counted)) o.few
-        (d ∙ own_drafted pairs 0 0 draft t (omega (arith, o.counted, o.few)) long o.first_is o.branch_is o.plate_is o.drafted)
+  -- no semicolon ends it
+  pub tree_open : false ≡ ends (token ∷ tokens_of rest) → NotDrafted text Flaw.Malformed
+  tree_open e = no_tree (closes_by false e)
+
+  pub tree_reads : {d : Draft} → length start.bytes ≡ 16 * most_records → true ≡ ends (token ∷ tokens_of rest) → Drafted 0 0 p mid d
+      → TreeDrafted pairs text d
+  unfolding layout
+  tree_reads {d} long e w =
+      record {
+        tree_of = o.tree;
+        grown_is = closes_by true e;
+        counted = omega (arith, w.records_stay, o.read.counted, f.none);
+        drafted = (
+          start.bytes,
+          long,
+          w.written ∙ rw (o.read.pairs_stay, f.pairs_are)
+              (own_drafted pairs 0 0 start.bytes o.tree (omega (arith, o.read.counted, mid.few)) long (rw f.none at o.fields)
+              (rw (f.none, f.pairs_are) at o.drafted)),
+        );
+      }

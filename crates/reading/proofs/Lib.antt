@@ -7,7 +7,6 @@ pub mod Endings
 pub mod Grown
 pub mod Lengths
 pub mod Links
-pub mod Meeting
 pub mod Pairing
 pub mod Parts
 pub mod Scanning

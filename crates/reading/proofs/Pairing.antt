@@ -1,128 +1,96 @@
 -- Pairs of numbers gone through one by one, by the code and for the row that judges them.
-use Rattle.std.specs.Prelude.{if◌then◌else◌, Option, is_some}
-use Prim.Native.Nat.{ℕ, ◌+◌, ◌%◌, ◌≤◌, ◌<◌}
-use mathlib.Core.Path.{◌≡◌, refl, sym, ap, subst, fun_ext, ◌∙◌}
+use Rattle.std.specs.Prelude.{if◌then◌else◌, Option, None, Some, is_some, count_by}
+use Rattle.std.specs.List.{find, list_any, range_with_len}
+use Rattle.std.specs.Simd.{first_chunks}
+use Rattle.std.proofs.lemmas.List.Sums.{sum_by-cons}
+use Prim.Native.Nat.{ℕ, zero, suc, ◌+◌, ◌/◌, ◌%◌}
+use mathlib.Core.Path.{◌≡◌, refl, sym, ap, ap₂, subst, fun_ext, ◌∙◌}
 use mathlib.Core.Logic.Iff
 use mathlib.Core.Logic.{inl, inr}
-use mathlib.Core.Bool.{Bool, true, false, ◌||◌, ◌&&◌, not, or-true, false≢true}
+use mathlib.Core.Bool.{Bool, true, false, ◌||◌, ◌&&◌, cond, not, or-true, false≢true}
 use mathlib.Core.List.{List, [], ◌∷◌}
 use native.Mathlib.Omega.{arith}
 use lib.Dec.{eqb}
-use lib.ListN.{length, get_or, drop, length-drop}
-use mir.Val.{bool_byte}
+use lib.ListN.{length, get_or}
 use borrow.Author.Tests.{eqb-true, eqb-false, eq-eqb, ne_eqb}
 use Rattle.lists.specs.Lists.{one, from, anywhere, lowest, nonzero}
-use Rattle.lists.proofs.Bools.{byte_one, one_le, eqb_comm}
-use Rattle.lists.proofs.Pieces.{two_at}
-use Rattle.lists.proofs.Walk.{Seeking, seeking_finds, seeking_ends, anywhere_lowest, is_some_nonzero}
+use Rattle.lists.proofs.Bools.{eqb_comm}
+use Rattle.lists.proofs.Walk.{anywhere_lowest, is_some_nonzero}
 use Rattle.refusals.proofs.Tests.{Decides, decides_equal, decides_not, decides_either}
 use Rattle.outline.specs.Outline.{size, records, plate, is_taxon}
 use Rattle.newick.specs.Pairs.{price_in, pairs_of, paired, bad_pairs}
 use Rattle.newick.specs.Inner.{plates_in, plates_of}
-use Rattle.reading.specs.Inner.{unpaired, unmatched}
+use Rattle.reading.specs.Inner.{by_two, unpaired, unmatched}
 use Rattle.reading.specs.Demands.{In, here, there, Pair, first_pair, later_pair, BadPairs}
 use Rattle.outline.specs.Rules.{has_plate}
 
--- a function of pairs that is the same without those before place i
-pub record Passing {A : Type 0} (f : List ℕ → A) (pairs : List ℕ) (i : ℕ) : Type 0 where
-  pub high : i ≤ length pairs
-  pub whole : f pairs ≡ f (drop i pairs)
+-- ---- pairs, two numbers each
 
-module _ {A : Type 0} {f : List ℕ → A} {pairs : List ℕ} {i : ℕ} (k : Passing f pairs i) where
-  passing_here : {a : A} → i + 1 < length pairs → f (get_or pairs i 0 ∷ get_or pairs (i + 1) 0 ∷ drop (i + 2) pairs) ≡ a → f pairs ≡ a
-  passing_here h e = k.whole ∙ ap f (two_at pairs i h) ∙ e
+-- the chunks of two numbers
+pub chunks_by_two : (xs : List ℕ) (k : ℕ) → k ≡ length xs / 2 → first_chunks 2 k xs ≡ by_two xs
+chunks_by_two [] zero e = refl
+chunks_by_two [] (suc k) e = absurd (omega arith)
+chunks_by_two (q ∷ []) zero e = refl
+chunks_by_two (q ∷ []) (suc k) e = absurd (omega arith)
+chunks_by_two (q ∷ (c ∷ rest)) zero e = absurd (omega arith)
+chunks_by_two (q ∷ (c ∷ rest)) (suc k) e = ap (λ ps. (q ∷ (c ∷ [])) ∷ ps) (chunks_by_two rest k (omega arith))
 
-  passing_goes : i + 1 < length pairs → f (get_or pairs i 0 ∷ get_or pairs (i + 1) 0 ∷ drop (i + 2) pairs) ≡ f (drop (i + 2) pairs)
-      → Passing f pairs (i + 2)
-  passing_goes h e = record { high = omega arith; whole = passing_here h e }
+-- a pair is of a plate
+abbrev pub of_plate : ℕ → List ℕ → Bool
+of_plate p pair = eqb (get_or pair 0 0) p
 
--- where fewer than two numbers are left, a function that is the same for none and for one
-few_left : {A : Type 0} (f : List ℕ → A) {a : A} → f [] ≡ a → ((q : ℕ) → f (q ∷ []) ≡ a)
-    → (pairs : List ℕ) (i : ℕ) → length pairs ≤ i + 1 → f (drop i pairs) ≡ a
-few_left f {a} none one pairs i h = go (drop i pairs) (rw length-drop (omega arith))
+-- the price of a pair, if there is one
+abbrev pub price_of : Option (List ℕ) → ℕ
+price_of None = 0
+price_of (Some pair) = get_or pair 1 0
+
+pub found_price : (pairs : List ℕ) (p : ℕ) → price_of (find (of_plate p) (by_two pairs)) ≡ price_in pairs p
+unfolding price_in
+found_price [] p = refl
+found_price (q ∷ []) p = refl
+found_price (q ∷ (c ∷ rest)) p = go (eqb q p) (found_price rest p)
   where
-    go : (xs : List ℕ) → length xs ≤ 1 → f xs ≡ a
-    go [] l = none
-    go (x ∷ []) l = one x
-    go (x ∷ (y ∷ xs)) l = absurd (omega arith)
+    go : (b : Bool) → price_of (find (of_plate p) (by_two rest)) ≡ price_in rest p
+        → price_of (cond b (Some (q ∷ (c ∷ []))) (find (of_plate p) (by_two rest))) ≡ (if b then c else price_in rest p)
+    go true h = refl
+    go false h = h
 
--- ---- the price of a plate
-
--- no pair before place i is of the plate
-abbrev pub Unpriced : List ℕ → ℕ → ℕ → Type 0
-Unpriced pairs p i = Passing (λ xs. price_in xs p) pairs i
-
-module _ {pairs : List ℕ} (p : ℕ) {i : ℕ} (k : Unpriced pairs p i) where
-  -- the pair here has it, or it is in a later one, or in none
-  pub price_here : i + 1 < length pairs → get_or pairs i 0 ≡ p → get_or pairs (i + 1) 0 ≡ price_in pairs p
-  unfolding price_in
-  price_here h e = sym (passing_here k h (rw (eq-eqb (get_or pairs i 0) p e)))
-
-  pub price_later : i + 1 < length pairs → (get_or pairs i 0 ≡ p → ⊥) → Unpriced pairs p (i + 2)
-  unfolding price_in
-  price_later h n = passing_goes k h (rw (ne_eqb (get_or pairs i 0) p n))
-
-  pub price_none : length pairs ≤ i + 1 → 0 ≡ price_in pairs p
-  unfolding price_in
-  price_none h = sym (k.whole ∙ few_left (λ xs. price_in xs p) refl (λ q. refl) pairs i h)
-
--- ---- how many pairs a plate has
-
--- the pairs of a plate, counted up to place i
-pub record Counted (pairs : List ℕ) (p sum i : ℕ) : Type 0 where
-  pub high : i ≤ length pairs
-  pub small : sum ≤ i
-  pub whole : sum + pairs_of (drop i pairs) p ≡ pairs_of pairs p
-
-module _ {pairs : List ℕ} {p sum i : ℕ} (k : Counted pairs p sum i) where
-  -- what a pair adds leaves the count in range
-  pub counted_most : sum + bool_byte (eqb (get_or pairs i 0) p) ≤ i + 1
-  counted_most = let b = eqb (get_or pairs i 0) p in omega (arith, byte_one b, one_le b, k.small)
-
-  pub counted_goes : i + 1 < length pairs → Counted pairs p (sum + bool_byte (eqb (get_or pairs i 0) p)) (i + 2)
-  counted_goes h =
-      let step : pairs_of (drop i pairs) p ≡ one (eqb (get_or pairs i 0) p) + pairs_of (drop (i + 2) pairs) p =
-      unfold pairs_of in rw (two_at pairs i h) in
-      let same = byte_one (eqb (get_or pairs i 0) p) in
-      record { high = omega arith; small = omega (arith, counted_most); whole = omega (arith, k.whole) }
-
-  pub counted_ends : length pairs ≤ i + 1 → sum ≡ pairs_of pairs p
-  unfolding pairs_of
-  counted_ends h = omega (arith, k.whole, few_left (λ xs. pairs_of xs p) refl (λ q. refl) pairs i h)
+pub counted_pairs : (pairs : List ℕ) (p : ℕ) → count_by (of_plate p) (by_two pairs) ≡ pairs_of pairs p
+unfolding pairs_of
+counted_pairs [] p = refl
+counted_pairs (q ∷ []) p = refl
+counted_pairs (q ∷ (c ∷ rest)) p =
+    sum_by-cons (λ pair. cond (of_plate p pair) 1 0) (q ∷ (c ∷ [])) (by_two rest) ∙ go (eqb q p) (counted_pairs rest p)
+  where
+    go : (b : Bool) → count_by (of_plate p) (by_two rest) ≡ pairs_of rest p
+        → cond b 1 0 + count_by (of_plate p) (by_two rest) ≡ one b + pairs_of rest p
+    go true h = ap (λ n. 1 + n) h
+    go false h = ap (λ n. 0 + n) h
 
 -- ---- taxa without a pair, and pairs without a taxon
 
--- a test that holds at one of the numbers 1 to n, or at none
-module _ (p : ℕ → Bool) (n : ℕ) {r : ℕ} (s : Seeking p n r) where
-  pub any_found : r ≤ n → p r ≡ true → true ≡ anywhere p (from 1 n)
-  any_found h e = rw (← anywhere_lowest p n, ← seeking_finds p n s h e, ne_eqb r 0 (λ z. omega (arith, s.low)))
+-- a test that holds somewhere
+pub any_anywhere : (test : ℕ → Bool) (xs : List ℕ) → list_any test xs ≡ anywhere test xs
+unfolding anywhere
+any_anywhere test [] = refl
+any_anywhere test (x ∷ xs) = ap (λ b. test x || b) (any_anywhere test xs)
 
-  pub any_none : n < r → false ≡ anywhere p (from 1 n)
-  any_none h = rw (← anywhere_lowest p n, ← seeking_ends p n s h)
-
--- the pairs before place i have their taxa
-abbrev pub Matched : List ℕ → List ℕ → ℕ → Type 0
-Matched o pairs i = Passing (λ xs. anywhere (unmatched o) (paired xs)) pairs i
+pub numbers_from : (a n : ℕ) → range_with_len a n ≡ from a n
+unfolding from
+numbers_from a zero = refl
+numbers_from a (suc n) = ap (λ xs. a ∷ xs) (numbers_from (a + 1) n)
 
 -- no taxon has a plate where none holds it
-holder_unmatched : (o : List ℕ) (q : ℕ) {r : Option ℕ} → r ≡ nonzero (lowest (has_plate o q) (from 1 (size o))) → unmatched o q ≡ not (is_some r)
+holder_unmatched : (o : List ℕ) (q : ℕ) → not (is_some (nonzero (lowest (has_plate o q) (from 1 (size o))))) ≡ unmatched o q
 unfolding records
-holder_unmatched o q f = rw (f, is_some_nonzero, anywhere_lowest)
+holder_unmatched o q = rw (is_some_nonzero, anywhere_lowest)
 
-module _ (o : List ℕ) {pairs : List ℕ} {i : ℕ} (k : Matched o pairs i) where
-  -- all pairs are passed; or the pair here has no taxon, or it has one
-  pub matched_ends : length pairs ≤ i + 1 → false ≡ anywhere (unmatched o) (paired pairs)
-  unfolding anywhere paired
-  matched_ends h = sym (k.whole ∙ few_left (λ xs. anywhere (unmatched o) (paired xs)) refl (λ q. refl) pairs i h)
-
-  module _ (h : i + 1 < length pairs) {r : Option ℕ} (f : r ≡ nonzero (lowest (has_plate o (get_or pairs i 0)) (from 1 (size o)))) where
-    pub matched_fails : is_some r ≡ false → true ≡ anywhere (unmatched o) (paired pairs)
-    unfolding anywhere paired
-    matched_fails z = sym (passing_here k h (rw (holder_unmatched o (get_or pairs i 0) f, z)))
-
-    pub matched_goes : is_some r ≡ true → Matched o pairs (i + 2)
-    unfolding anywhere paired
-    matched_goes z = passing_goes k h (rw (holder_unmatched o (get_or pairs i 0) f, z))
+pub any_unmatched : (o pairs : List ℕ)
+    → list_any (λ pair. not (is_some (nonzero (lowest (has_plate o (get_or pair 0 0)) (from 1 (size o)))))) (by_two pairs) ≡ anywhere (unmatched o) (paired pairs)
+unfolding anywhere paired
+any_unmatched o [] = refl
+any_unmatched o (q ∷ []) = refl
+any_unmatched o (q ∷ (c ∷ rest)) = ap₂ (λ (a : Bool) (b : Bool). a || b) (holder_unmatched o q) (any_unmatched o rest)
 
 -- ---- the row over the plates of the taxa
 

@@ -1,26 +1,27 @@
 -- Parts and lists of parts: what the readers find, by the tokens and by the calls before.
 use Prim.Native.Nat.{ℕ, zero, suc, ◌+◌, ◌*◌, ◌≤◌, ◌<◌}
 use mathlib.Core.Path.{◌≡◌, refl, sym, ap, subst, ◌∙◌}
-use mathlib.Core.List.{List, ◌∷◌}
+use mathlib.Core.List.{List, [], ◌∷◌}
 use native.Mathlib.Omega.{arith}
+use lib.ListN.{length}
+use Rattle.std.specs.Prelude.{Option, None, Some, Result, Ok, Err, ok_or, MatchResult}
 use Rattle.lists.specs.Lists.{over_at}
 use Rattle.lists.proofs.Pieces.{over_nothing}
 use Rattle.newick.specs.Grammar.{Kind, part, chain, Tree, taxon, group, last, more}
-use Rattle.newick.specs.Layout.{rows}
+use Rattle.newick.specs.Layout.{count, rows}
 use Rattle.newick.specs.Pairs.{price_in}
-use Rattle.newick.specs.Parsing.{Outcome, failed, got, with_number, with_length, grouped, part_from, joined, chain_then, chain_from, read_in}
-use Rattle.newick.specs.Inner.{ahead, before}
-use Rattle.reading.specs.Inner.{Passed, Begun, drafted, Finished, finished_bad, finished_read, Readable, left}
-use Rattle.reading.specs.Inner.{IfGot, if_failed, if_got, PartOf, PartRead, part_bad, part_many, part_read, ListRead, list_bad, list_many, list_read}
-use Rattle.reading.specs.declared.cursor.Cursor.{Cursor}
-use Rattle.reading.specs.declared.part.Members.{Members}
-use Rattle.reading.specs.declared.part.Part.{Part}
+use Rattle.newick.specs.Parsing.{tokens_of, Outcome, failed, got, with_number, with_length, grouped, part_from, joined, chain_then, chain_from, read_in}
+use Rattle.newick.specs.Inner.{Met}
 use Rattle.newick.specs.declared.token.Token.{Token}
-use Rattle.reading.proofs.Meeting.{met_is, met_shows, begun_shows}
 use Rattle.newick.proofs.Layouts.{count_some}
-use Rattle.reading.proofs.Drafts.{own_drafted, last_drafted, list_drafted}
 use Rattle.newick.proofs.Tokens.{by_first}
 use Rattle.outline.specs.Rules.{most_records}
+use Rattle.reading.specs.Inner.{Begun, Full, Drafted, fields_of, below, record_of, Short, short_failed, short_ended, Stopped, Followed}
+use Rattle.reading.specs.Inner.{IfGot, if_failed, if_got, Failed, Unread, unread_bad, unread_many, PartRead, ListRead}
+use Rattle.reading.specs.declared.draft.Draft.{Draft}
+use Rattle.reading.specs.declared.draft.Part.{Part}
+use Rattle.reading.specs.declared.flaw.Flaw.{Flaw}
+use Rattle.reading.proofs.Drafts.{own_drafted, last_drafted, list_drafted}
 
 -- ---- one call deeper
 part_by_lem : (ts : List Token) (b : ℕ) (o : Outcome part) → ((n : ℕ) → b ≤ n → part_from (read_in n chain) ts ≡ o)
@@ -58,8 +59,8 @@ unfolding with_length with_number
 length_if P f h =
     by_first (λ ts. IfGot P (with_length f ts)) (if_got (h 0)) (λ _. if_got (h 0)) (λ _. if_got (h 0)) (λ _. if_got (h 0))
     (by_first (λ ts. IfGot P (with_number f ts)) if_failed (λ _. if_failed) (λ _. if_failed) (λ _. if_failed) (λ _. if_failed) (λ _. if_failed)
-    (λ l _. if_got (h l)) (λ _. if_failed) (λ _. if_failed))
-    (λ _. if_got (h 0)) (λ _ _. if_got (h 0)) (λ _. if_got (h 0)) (λ _. if_got (h 0))
+    (λ l _. if_got (h l)) (λ _. if_failed))
+    (λ _. if_got (h 0)) (λ _ _. if_got (h 0)) (λ _. if_got (h 0))
 
 group_if : (P : Tree part → Type 0) {Q : Tree chain → Type 0} {o : Outcome chain} → ((ms : Tree chain) (l : ℕ) → Q ms → P (group ms l)) → IfGot Q o
     → IfGot P (grouped o)
@@ -81,10 +82,11 @@ chain_if P f g h (if_got {t = t} {ts = ts} q) = then_if ts
         unfold chain_then in
         by_first (λ ts. IfGot P (chain_then f t ts)) if_failed (λ _. if_failed) (λ _. if_got (g t q))
         (λ ts. joined_if P {Q = λ _. Unit {0}} t (λ ms _. h t ms q) (always (λ _. Unit {0}) (λ _. tt) (f ts)))
-        (λ _. if_failed) (λ _. if_failed) (λ _ _. if_failed) (λ _. if_failed) (λ _. if_failed)
+        (λ _. if_failed) (λ _. if_failed) (λ _ _. if_failed) (λ _. if_failed)
 
 -- ---- a part, by the token that begins it
-pub no_part : (t : Token) → (t ≡ Token.Open → ⊥) → ((q : ℕ) → t ≡ Token.Number q → ⊥) → (f : List Token → Outcome chain) (ts : List Token) → part_from f (before t ts) ≡ failed
+pub no_part : (t : Token) → (t ≡ Token.Open → ⊥) → ((q : ℕ) → t ≡ Token.Number q → ⊥) → (f : List Token → Outcome chain) (ts : List Token)
+    → part_from f (t ∷ ts) ≡ failed
 unfolding part_from
 no_part Token.Open o v f ts = absurd (o refl)
 no_part Token.Close o v f ts = refl
@@ -93,102 +95,109 @@ no_part Token.Colon o v f ts = refl
 no_part Token.Semicolon o v f ts = refl
 no_part (Token.Number p) o v f ts = absurd (v p refl)
 no_part Token.Other o v f ts = refl
-no_part Token.End o v f ts = refl
 
-module _ (pairs : List ℕ) {text : List ℕ} {from : Cursor} {draft : List ℕ} (ready : Readable text from draft) where
+-- an option that has no value is malformed
+pub no_value : {X : Type 0} {o : Option X} {flaw : Flaw} → Err flaw ≡ ok_or o Flaw.Malformed → o ≡ None → flaw ≡ Flaw.Malformed
+no_value {o = None} e z = cc
+no_value {o = Some x} e z = cc
+
+-- a part that fails is short
+fails_short : {o : Outcome part} → o ≡ failed → Short o
+fails_short e = subst Short (sym e) short_failed
+
+module _ (k : ℕ) (text : List ℕ) where
   -- the records of a part that begins now would be too many
-  pub part_stops : from.records ≡ most_records → PartRead pairs text from draft draft Part.Many
-  part_stops e = part_many (λ n h. always _ (λ t. omega (arith, count_some t)) _)
+  pub part_stops : {from : Draft} {flaw : Flaw} → Full from flaw → k ≡ from.records → Unread part Short k text flaw
+  part_stops f e =
+      subst (Unread part Short k text) (sym f.is) (unread_many (λ n h. always _ (λ t. omega (arith, count_some t, f.full)) _))
 
-  module _ {past : Cursor} {s : Token} (p : Passed text from past s) where
-    pub part_fails : {after : List ℕ} → (s ≡ Token.Open → ⊥) → ((q : ℕ) → s ≡ Token.Number q → ⊥)
-        → PartRead pairs text from draft after Part.Bad
-    part_fails o v =
-        part_bad (part_by_lem _ _ _ (λ n b. ap (part_from (read_in n chain)) p.met.shows ∙ no_part s o v (read_in n chain) p.met.later))
+  -- nothing is left
+  pub part_nowhere : tokens_of text ≡ [] → Unread part Short k text Flaw.Malformed
+  unfolding part_from
+  part_nowhere e = unread_bad (λ n b. fails_short (part_by_lem _ _ _ (λ n _. ap (part_from (read_in n chain)) e) n b))
 
-    module _ (room : from.records ≡ most_records → ⊥) {inside : Cursor} (b : Begun past inside) where
-      begins : inside.records ≡ from.records + 1
-      begins = omega (arith, b.counted, p.same)
+  pub part_fails : {rest : List ℕ} {s : Token} → Met text s rest → (s ≡ Token.Open → ⊥) → ((q : ℕ) → s ≡ Token.Number q → ⊥)
+      → Unread part Short k text Flaw.Malformed
+  part_fails {rest} {s} m o v =
+      unread_bad
+      (λ n b. fails_short (part_by_lem _ _ _ (λ n _. ap (part_from (read_in n chain)) m.shows ∙ no_part s o v (read_in n chain) (tokens_of rest)) n b))
 
-      pub part_room : inside.records ≤ most_records
-      part_room = omega (arith, ready.few, room, begins)
+-- a part is read but for its length
+pub record HeadRead (from to : Draft) (text : List ℕ) (first plate : ℕ) (rest : List ℕ) : Type 0 where
+  pub made : ℕ → Tree part
+  pub reads : (n : ℕ) → 2 * length text ≤ n → part_from (read_in n chain) (tokens_of text) ≡ with_length made (tokens_of rest)
+  pub shorter : length rest < length text
+  pub counted : (l : ℕ) → to.records ≡ from.records + count (made l)
+  pub pairs_stay : to.pairs.now ≡ from.pairs.now
+  pub fields : (l : ℕ) → record { first = first; length = l; plate = plate } ≡ fields_of from.records (made l)
+  pub drafted : (l : ℕ) → to.bytes ≡ over_at (16 * (from.records + 1)) (below from.pairs.now from.records (made l)) from.bytes
 
-      -- a plate number
-      pub part_taxon : (q : ℕ) → s ≡ Token.Number q → {r : Part} → Finished text inside 0 q r → PartRead pairs text from draft draft r
-      unfolding part_from
-      part_taxon q e (finished_bad g) =
-          part_bad (part_by_lem _ _ _ (λ n h. ap (part_from (read_in n chain)) (begun_shows (Token.Number q) p.met e (omega arith) b) ∙ g (taxon q)))
-      part_taxon q e (finished_read {l} {to} g a i k) =
-          let m = met_is (Token.Number q) p.met e in
-          part_read {to = to} (taxon q l)
-          record {
-            reads =
-                part_by_lem _ _ _ (λ n h. ap (part_from (read_in n chain)) (begun_shows (Token.Number q) p.met e (omega arith) b) ∙ g (taxon q));
-            later = omega (arith, m.moved, b.stays);
-            inside = i;
-            few = omega (arith, part_room);
-            counted = omega (arith, begins);
-            first_is = refl;
-            branch_is = refl;
-            plate_is = refl;
-            drafted = sym (over_nothing (16 * (from.records + 1)) draft);
-          }
+module _ {from mid : Draft} {k : ℕ} (b : Begun from mid k) {text rest : List ℕ} {s : Token} (m : Met text s rest) where
+  -- a plate number
+  pub head_taxon : (p : ℕ) → s ≡ Token.Number p → HeadRead from mid text 0 p rest
+  unfolding part_from
+  head_taxon p e =
+      record {
+        made = taxon p;
+        reads = λ n h. ap (part_from (read_in n chain)) (m.shows ∙ ap (λ t. t ∷ tokens_of rest) e);
+        shorter = m.shorter;
+        counted = λ l. b.counted;
+        pairs_stay = b.pairs_stay;
+        fields = λ l. refl;
+        drafted = λ l. b.bytes_stay ∙ sym (over_nothing (16 * (from.records + 1)) from.bytes);
+      }
 
-      -- an opening bracket, and the list after it
-      module _ (e : s ≡ Token.Open) where
-        opens : ahead text from.at ≡ Token.Open ∷ ahead text inside.at
-        opens = begun_shows Token.Open p.met e (omega arith) b
+  -- an opening bracket, and the list after it
+  module _ (e : s ≡ Token.Open) where
+    opens : (n : ℕ) → part_from (read_in n chain) (tokens_of text) ≡ grouped (read_in n chain (tokens_of rest))
+    unfolding part_from
+    opens n = ap (part_from (read_in n chain)) (m.shows ∙ ap (λ t. t ∷ tokens_of rest) e)
 
-        pub part_falls : 2 * left text inside.at + 1 < 2 * left text from.at
-        part_falls = let m = met_is Token.Open p.met e in omega (arith, m.moved, m.within, b.stays)
+    pub group_unread : {flaw : Flaw} → Unread chain Failed mid.records rest flaw → Unread part Short from.records text flaw
+    group_unread (unread_bad g) =
+        unread_bad (λ n b. fails_short (part_by_lem _ _ _ (λ n h. opens n ∙ ap grouped (g n (omega (arith, m.shorter)))) n b))
+    group_unread (unread_many g) =
+        unread_many (part_if _ _ _ (λ n h. rw (opens n) (group_if _ (λ ms l q. omega (arith, b.counted)) (g n (omega (arith, m.shorter))))))
 
-        pub part_unread : {after : List ℕ} → ListRead pairs text inside draft after Members.Bad → PartRead pairs text from draft after Part.Bad
-        unfolding part_from
-        part_unread (list_bad g) =
-            part_bad (part_by_lem _ _ _ (λ n h. ap (part_from (read_in n chain)) opens ∙ ap grouped (g n (omega (arith, part_falls)))))
+    pub head_group : {to : Draft} {past : List ℕ} → ListRead mid to rest past → HeadRead from to text (k + 2) 0 past
+    head_group {to} {past} l =
+        record {
+          made = group l.members;
+          reads = λ n h. opens n ∙ ap grouped (l.read.reads n (omega (arith, m.shorter)));
+          shorter = omega (arith, m.shorter, l.shorter);
+          counted = λ _. omega (arith, l.read.counted, b.counted);
+          pairs_stay = l.read.pairs_stay ∙ b.pairs_stay;
+          fields = λ j. ap (λ i. record { first = i + 2; length = j; plate = 0 }) b.before_is;
+          drafted = λ _. let up : mid.records + 1 ≡ from.records + 2 = omega (arith, b.counted) in l.drafted ∙ rw (up, b.counted, b.pairs_stay, b.bytes_stay);
+        }
 
-        pub part_overflows : {after : List ℕ} → ListRead pairs text inside draft after Members.Many → PartRead pairs text from draft after Part.Many
-        unfolding part_from
-        part_overflows (list_many g) =
-            part_many
-            (part_if _ _ _
-            (λ n h. rw opens (group_if _ (λ ms l q. omega (arith, begins)) (g n (omega (arith, part_falls))))))
+-- and its length
+module _ {from to : Draft} {text rest : List ℕ} {first plate : ℕ} (h : HeadRead from to text first plate rest) where
+  pub part_unfinished : Stopped rest → Unread part Short from.records text Flaw.Malformed
+  part_unfinished g = unread_bad (λ n b. short n (g h.made) b)
+    where
+      short : (n : ℕ) → Short (with_length h.made (tokens_of rest)) → 2 * length text < n → Short (read_in n part (tokens_of text))
+      short n s b = subst Short (sym (part_by_lem _ _ _ h.reads n b)) s
 
-        pub part_group : {after : List ℕ} {to : Cursor} {first : ℕ} {r : Part} → ListRead pairs text inside draft after (Members.Read to)
-            → first ≡ inside.records + 1 → Finished text to first 0 r → PartRead pairs text from draft after r
-        unfolding part_from
-        part_group (list_read ms o) f (finished_bad g) =
-            part_bad
-            (part_by_lem _ _ _ (λ n h. ap (part_from (read_in n chain)) opens ∙ ap grouped (o.reads n (omega (arith, part_falls))) ∙ g (group ms)))
-        part_group {after} {first = first} (list_read ms o) f (finished_read {l} {to} g a i k) =
-            let m = met_is Token.Open p.met e in
-            part_read {to = to} {first = first} (group ms l)
+  pub part_finished : {l : ℕ} {token : Token} {past : List ℕ} → Followed rest l token past
+      → PartRead from to text (record { first = first; length = l; plate = plate }) token past
+  part_finished {l} g =
+      record {
+        tree = h.made l;
+        read =
             record {
-              reads =
-                  part_by_lem _ _ _ (λ n h. ap (part_from (read_in n chain)) opens ∙ ap grouped (o.reads n (omega (arith, part_falls))) ∙ g (group ms));
-              later = omega (arith, m.moved, b.stays, o.later);
-              inside = i;
-              few = omega (arith, o.few);
-              counted = omega (arith, o.counted, begins);
-              first_is = omega (arith, begins);
-              branch_is = refl;
-              plate_is = refl;
-              drafted = subst (λ k. after ≡ over_at (16 * k) (rows (price_in pairs) ms (k + 1) 0) draft) begins o.drafted;
-            }
-
--- ---- what a call gave
-pub part_of_lem : {pairs text : List ℕ} {from to : Cursor} {first branch plate : ℕ} {draft after : List ℕ}
-    → PartRead pairs text from draft after (Part.Read to first branch plate)
-    → (t : Tree part) × PartOf pairs text from to first branch plate draft after t
-part_of_lem (part_read t o) = (t, o)
-
-pub own_room : {pairs text : List ℕ} {from to : Cursor} {first branch plate : ℕ} {draft after : List ℕ} {t : Tree part}
-    → PartOf pairs text from to first branch plate draft after t → from.records < most_records
-own_room {t = t} o = omega (arith, o.counted, o.few, count_some t)
+              reads = part_by_lem _ _ _ (λ n b. h.reads n b ∙ g.reads h.made);
+              counted = h.counted l;
+              pairs_stay = h.pairs_stay;
+            };
+        shorter = omega (arith, h.shorter, g.shorter);
+        fields = h.fields l;
+        drafted = h.drafted l;
+      }
 
 -- ---- a list, by its first member
 pub no_next : (u : Token) → (u ≡ Token.Comma → ⊥) → (u ≡ Token.Close → ⊥) → (f : List Token → Outcome chain) (t : Tree part) (ts : List Token)
-    → chain_then f t (before u ts) ≡ failed
+    → chain_then f t (u ∷ ts) ≡ failed
 unfolding chain_then
 no_next Token.Open a o f t ts = refl
 no_next Token.Close a o f t ts = absurd (o refl)
@@ -197,85 +206,97 @@ no_next Token.Colon a o f t ts = refl
 no_next Token.Semicolon a o f t ts = refl
 no_next (Token.Number p) a o f t ts = refl
 no_next Token.Other a o f t ts = refl
-no_next Token.End a o f t ts = refl
 
-module _ {pairs text : List ℕ} {from : Cursor} {draft : List ℕ} (ready : Readable text from draft) where
-  pub list_unread : {mid after : List ℕ} → PartRead pairs text from draft mid Part.Bad → ListRead pairs text from draft after Members.Bad
-  list_unread (part_bad g) = list_bad (list_by _ _ _ (λ n h. ap (chain_from (read_in n chain)) (g n (omega arith))))
+-- a list that begins with a short part fails
+chain_short : (f : List Token → Outcome chain) {o : Outcome part} → Short o → chain_from f o ≡ failed
+unfolding chain_then
+chain_short f short_failed = refl
+chain_short f short_ended = refl
 
-  pub list_overflows : {mid after : List ℕ} → PartRead pairs text from draft mid Part.Many → ListRead pairs text from draft after Members.Many
-  list_overflows (part_many g) =
-      list_many (list_if _ _ _ (λ n h. chain_if _ (read_in n chain) (λ t q. omega arith) (λ t ms q. omega arith) (g n (omega arith))))
+pub list_unread : {k : ℕ} {text : List ℕ} {flaw : Flaw} → Unread part Short k text flaw → Unread chain Failed k text flaw
+list_unread (unread_bad g) = unread_bad (list_by _ _ _ (λ n h. chain_short (read_in n chain) (g n (omega arith))))
+list_unread (unread_many g) =
+    unread_many (list_if _ _ _ (λ n h. chain_if _ (read_in n chain) (λ t q. omega arith) (λ t ms q. omega arith) (g n (omega arith))))
 
-  -- and by the token after it
-  module _ {to : Cursor} {first branch plate : ℕ} {mid : List ℕ} (t : Tree part) (o : PartOf pairs text from to first branch plate draft mid t)
-      {past : Cursor} {s : Token} (p : Passed text to past s) where
-    pub list_fails : {after : List ℕ} → (s ≡ Token.Comma → ⊥) → (s ≡ Token.Close → ⊥)
-        → ListRead pairs text from draft after Members.Bad
-    list_fails a k =
-        list_bad
-        (list_by _ _ _
-        (λ n h.
-        ap (chain_from (read_in n chain)) (o.reads n (omega arith)) ∙ ap (chain_then (read_in n chain) t) p.met.shows
-        ∙ no_next s a k (read_in n chain) t p.met.later))
+module _ {from mid : Draft} {text rest : List ℕ} {p : Part} {token : Token} (o : PartRead from mid text p token rest) where
+  abbrev t : Tree part
+  t = o.tree
 
-    -- the member's records are drafted
-    own : (next : ℕ) → drafted pairs from.records next first branch plate mid
-        ≡ over_at (16 * from.records) (rows (price_in pairs) t (from.records + 1) next) draft
-    own next =
-        own_drafted pairs from.records next draft t (omega (arith, o.counted, o.few)) ready.long o.first_is o.branch_is o.plate_is
-        o.drafted
+  few : from.records + count t ≤ most_records
+  few = omega (arith, o.read.counted, mid.few)
+
+  pub own_room : from.records < most_records
+  own_room = omega (arith, few, count_some t)
+
+  -- the member is read, and the token that follows it decides
+  member : (n : ℕ) → 2 * length text < n
+      → chain_from (read_in n chain) (read_in n part (tokens_of text)) ≡ chain_then (read_in n chain) t (token ∷ tokens_of rest)
+  unfolding chain_then
+  member n h = ap (chain_from (read_in n chain)) (o.read.reads n h)
+
+  pub list_fails : (token ≡ Token.Comma → ⊥) → (token ≡ Token.Close → ⊥) → Unread chain Failed from.records text Flaw.Malformed
+  list_fails a k = unread_bad (list_by _ _ _ (λ n h. member n (omega arith) ∙ no_next token a k (read_in n chain) t (tokens_of rest)))
+
+  followed_by : (s : Token) → token ≡ s → (n : ℕ) → 2 * length text < n
+      → chain_from (read_in n chain) (read_in n part (tokens_of text)) ≡ chain_then (read_in n chain) t (s ∷ tokens_of rest)
+  followed_by s e n h = member n h ∙ ap (λ u. chain_then (read_in n chain) t (u ∷ tokens_of rest)) e
+
+  -- the member's records are drafted
+  module _ {next : ℕ} {to : Draft} (long : length from.bytes ≡ 16 * most_records) (d : Drafted from.records next p mid to) where
+    own : to.bytes ≡ over_at (16 * from.records) (rows (price_in from.pairs.now) t (from.records + 1) next) from.bytes
+    own =
+        d.written ∙ ap (λ pairs. over_at (16 * from.records) (record_of pairs next p) mid.bytes) o.read.pairs_stay
+        ∙ own_drafted from.pairs.now from.records next from.bytes t few long o.fields o.drafted
 
     -- the closing bracket
-    pub list_ends : {after : List ℕ} → s ≡ Token.Close → after ≡ drafted pairs from.records 0 first branch plate mid
-        → ListRead pairs text from draft after (Members.Read past)
+    pub list_ends : token ≡ Token.Close → next ≡ 0 → ListRead from to text rest
     unfolding chain_then
-    list_ends e d =
-        let m = met_is Token.Close p.met e in
-        list_read {to = past} (last t)
+    list_ends e z =
         record {
-          reads =
-              list_by _ _ _
-              (λ n h.
-              ap (chain_from (read_in n chain)) (o.reads n (omega arith))
-              ∙ ap (chain_then (read_in n chain) t) (met_shows Token.Close p.met e (omega arith)));
-          later = omega (arith, m.moved, o.later);
-          inside = m.within;
-          few = omega (arith, p.same, o.few);
-          counted = omega (arith, p.same, o.counted);
-          drafted = last_drafted (price_in pairs) from.records draft t (d ∙ own 0);
+          members = last t;
+          read =
+              record {
+                reads = list_by _ _ _ (λ n h. followed_by Token.Close e n (omega arith));
+                counted = d.records_stay ∙ o.read.counted;
+                pairs_stay = d.pairs_stay ∙ o.read.pairs_stay;
+              };
+          shorter = o.shorter;
+          drafted = last_drafted (price_in from.pairs.now) from.records from.bytes t (rw z at own);
         }
 
     -- a comma, and the rest of the list
-    module _ (e : s ≡ Token.Comma) where
-      pub list_falls : 2 * left text past.at + 1 < 2 * left text from.at + 1
-      list_falls = let m = met_is Token.Comma p.met e in omega (arith, m.moved, m.within, o.later)
-
-      goes : (n : ℕ) → 2 * left text from.at + 1 ≤ n
-          → chain_from (read_in n chain) (read_in n part (ahead text from.at)) ≡ joined t (read_in n chain (ahead text past.at))
+    module _ (e : token ≡ Token.Comma) (f : next ≡ mid.records + 1) where
+      goes : (n : ℕ) → 2 * length text < n
+          → chain_from (read_in n chain) (read_in n part (tokens_of text)) ≡ joined t (read_in n chain (tokens_of rest))
       unfolding chain_then
-      goes n h =
-          ap (chain_from (read_in n chain)) (o.reads n (omega arith))
-          ∙ ap (chain_then (read_in n chain) t) (met_shows Token.Comma p.met e (omega arith))
+      goes n h = followed_by Token.Comma e n h
 
-      pub list_goes : {again after : List ℕ} {r : Members} → again ≡ drafted pairs from.records (to.records + 1) first branch plate mid
-          → ListRead pairs text past again after r → ListRead pairs text from draft after r
-      list_goes d (list_bad g) = list_bad (list_by _ _ _ (λ n h. goes n h ∙ ap (joined t) (g n (omega (arith, list_falls)))))
-      list_goes d (list_many g) =
-          list_many
+      rest_unread : {flaw : Flaw} → Unread chain Failed to.records rest flaw → Unread chain Failed from.records text flaw
+      rest_unread (unread_bad g) = unread_bad (list_by _ _ _ (λ n h. goes n (omega arith) ∙ ap (joined t) (g n (omega (arith, o.shorter)))))
+      rest_unread (unread_many g) =
+          unread_many
           (list_if _ _ _
-          (λ n h. rw (goes n h) (joined_if _ t (λ ms q. omega (arith, p.same, o.counted)) (g n (omega (arith, list_falls))))))
-      list_goes {again} {after} d (list_read {to = end} ms q) =
-          let m = met_is Token.Comma p.met e in
-          list_read {to = end} (more t ms)
+          (λ n h. rw (goes n (omega arith)) (joined_if _ t (λ ms q. omega (arith, d.records_stay, o.read.counted)) (g n (omega (arith, o.shorter))))))
+
+      rest_read : {end : List ℕ} {after : Draft} → ListRead to after rest end → ListRead from after text end
+      rest_read {end} {after} l =
           record {
-            reads = list_by _ _ _ (λ n h. goes n h ∙ ap (joined t) (q.reads n (omega (arith, list_falls))));
-            later = omega (arith, m.moved, o.later, q.later);
-            inside = q.inside;
-            few = q.few;
-            counted = omega (arith, p.same, o.counted, q.counted);
+            members = more t l.members;
+            read =
+                record {
+                  reads = list_by _ _ _ (λ n h. goes n (omega arith) ∙ ap (joined t) (l.read.reads n (omega (arith, o.shorter))));
+                  counted = omega (arith, d.records_stay, o.read.counted, l.read.counted);
+                  pairs_stay = l.read.pairs_stay ∙ d.pairs_stay ∙ o.read.pairs_stay;
+                };
+            shorter = omega (arith, o.shorter, l.shorter);
             drafted =
-                list_drafted pairs from.records to.records draft t ms (omega (arith, o.counted, o.few)) ready.long o.counted
-                (d ∙ own (to.records + 1))
-                (subst (λ k. after ≡ over_at (16 * k) (rows (price_in pairs) ms (k + 1) 0) again) p.same q.drafted);
+                list_drafted from.pairs.now from.records mid.records from.bytes t l.members few long o.read.counted
+                (own ∙ ap (λ j. over_at (16 * from.records) (rows (price_in from.pairs.now) t (from.records + 1) j) from.bytes) f)
+                (l.drafted ∙ rw (d.records_stay, d.pairs_stay, o.read.pairs_stay));
           }
+
+      pub list_goes : {X : Type 0} (r : Result X Flaw) (end : X → List ℕ) (after : Draft)
+          → MatchResult r (λ x. ListRead to after rest (end x)) (Unread chain Failed to.records rest)
+          → MatchResult r (λ x. ListRead from after text (end x)) (Unread chain Failed from.records text)
+      list_goes (Ok x) end after l = rest_read l
+      list_goes (Err flaw) end after g = rest_unread g

@@ -1,86 +1,85 @@
 -- What the functions behind `read` speak of.
-use Rattle.std.specs.Prelude.{if◌then◌else◌, ℕ, ◌+◌, ◌*◌, ◌-◌, ◌≤◌, ◌<◌, ◌≡◌, Bool, ◌&&◌, not, List, [], length, eqb, ltb}
+use Rattle.std.specs.Prelude.{if◌then◌else◌, ℕ, ◌+◌, ◌*◌, ◌≤◌, ◌<◌, ◌≡◌, Bool, ◌&&◌, not, List, [], ◌∷◌, length, eqb, ltb}
 use Rattle.lists.specs.Lists.{anywhere, over_at}
 use Rattle.refusals.specs.Refusals.{Ruling, row, ◌▸◌, after}
 use Rattle.refusals.specs.Reply.{Reply, replied}
 use Rattle.outline.specs.Outline.{size, records, plate, is_taxon, record_bytes}
 use Rattle.outline.specs.Answer.{record_rows}
 use Rattle.newick.specs.Grammar.{Kind, part, chain, Tree, taxon, group}
-use Rattle.newick.specs.Inner.{ahead, Met, plates_of}
+use Rattle.newick.specs.Inner.{plates_of}
 use Rattle.newick.specs.Layout.{count, rows, layout}
 use Rattle.newick.specs.Pairs.{price_in, pairs_of, bad_pairs}
-use Rattle.newick.specs.Parsing.{Outcome, failed, got, with_number, with_length, read_in, unread, tree, grown}
+use Rattle.newick.specs.Parsing.{tokens_of, Outcome, failed, got, with_number, with_length, read_in, unread, tree, grown}
 use Rattle.newick.specs.declared.token.Token.{Token}
 use Rattle.reading.specs.Answer.{Figures, counted, no_figures}
-use Rattle.reading.specs.declared.cursor.Cursor.{Cursor}
-use Rattle.reading.specs.declared.part.Length.{Length}
-use Rattle.reading.specs.declared.part.Part.{Part}
-use Rattle.reading.specs.declared.part.Members.{Members}
-use Rattle.reading.specs.declared.reader.Draft.{Draft}
+use Rattle.reading.specs.declared.draft.Draft.{Draft}
+use Rattle.reading.specs.declared.draft.Part.{Part}
+use Rattle.reading.specs.declared.flaw.Flaw.{Flaw}
 use Rattle.outline.specs.Rules.{most_records, has_plate}
-
--- ---- the cursor
-
--- the cursor is moved past the next token, and no record is counted
-pub record Passed (text : List ℕ) (from to : Cursor) (token : Token) : Type 0 where
-  pub met : Met text from.at token to.at
-  pub same : to.records ≡ from.records
-
--- one more record has begun, and the place is the same
-pub record Begun (from to : Cursor) : Type 0 where
-  pub stays : to.at ≡ from.at
-  pub counted : to.records ≡ from.records + 1
 
 -- ---- drafting
 
--- a draft has room for 127 records
-abbrev pub draft_size : ℕ
-draft_size = 16 * most_records
+-- nothing is drafted, with these prices
+pub record Fresh (pairs : List ℕ) (d : Draft) : Type 0 where
+  pub pairs_are : d.pairs.now ≡ pairs
+  pub none : d.records ≡ 0
+
+-- a record begins, so many before it
+pub record Begun (from to : Draft) (before : ℕ) : Type 0 where
+  pub before_is : before ≡ from.records
+  pub room : from.records < most_records
+  pub counted : to.records ≡ from.records + 1
+  pub pairs_stay : to.pairs.now ≡ from.pairs.now
+  pub bytes_stay : to.bytes ≡ from.bytes
+
+-- one more would be too many
+pub record Full (from : Draft) (flaw : Flaw) : Type 0 where
+  pub is : flaw ≡ Flaw.TooMany
+  pub full : from.records ≡ most_records
 
 -- the price of a record: a group has none
-abbrev pub price_for : List ℕ → ℕ → ℕ → ℕ
-price_for pairs first plate = if eqb first 0 then price_in pairs plate else 0
+abbrev pub price_for : List ℕ → Part → ℕ
+price_for pairs p = if eqb p.first 0 then price_in pairs p.plate else 0
+
+-- the bytes of a part's record, with what it names next
+abbrev pub record_of : List ℕ → ℕ → Part → List ℕ
+record_of pairs next p = record_bytes next p.first p.length (price_for pairs p) p.plate
 
 -- the record after k others is written
-abbrev pub drafted : List ℕ → ℕ → ℕ → ℕ → ℕ → ℕ → List ℕ → List ℕ
-drafted pairs k next first branch plate draft =
-    over_at (16 * k) (record_bytes next first branch (price_for pairs first plate) plate) draft
+pub record Drafted (k next : ℕ) (p : Part) (from to : Draft) : Type 0 where
+  pub records_stay : to.records ≡ from.records
+  pub pairs_stay : to.pairs.now ≡ from.pairs.now
+  pub written : to.bytes ≡ over_at (16 * k) (record_of from.pairs.now next p) from.bytes
 
 -- ---- parts and lists
 
--- what a length, read in one of two ways, makes of a part but for its length: nothing, or the part and the cursor after it
-pub data LengthBy (reading : (ℕ → Tree part) → List Token → Outcome part) (text : List ℕ) (from : Cursor) : Length → Type 0 where
-  length_bad : ((f : ℕ → Tree part) → reading f (ahead text from.at) ≡ failed) → LengthBy reading text from Length.Bad
-  length_read : {l : ℕ} {to : Cursor} → ((f : ℕ → Tree part) → reading f (ahead text from.at) ≡ got (f l) (ahead text to.at))
-      → from.at ≤ to.at → to.at ≤ length text → to.records ≡ from.records → LengthBy reading text from (Length.Read l to)
+-- the number after a colon is none
+abbrev pub NoNumber : List ℕ → Type 0
+NoNumber text = (made : ℕ → Tree part) → with_number made (tokens_of text) ≡ failed
 
--- the number after a colon, and a length with its colon or none
-abbrev pub NumberRead : List ℕ → Cursor → Length → Type 0
-NumberRead = LengthBy with_number
+-- or it makes a part of what is one but for its length, and leaves the rest of the text
+pub record NumberRead (text : List ℕ) (l : ℕ) (rest : List ℕ) : Type 0 where
+  pub reads : (made : ℕ → Tree part) → with_number made (tokens_of text) ≡ got (made l) (tokens_of rest)
+  pub shorter : length rest < length text
 
-abbrev pub LengthRead : List ℕ → Cursor → Length → Type 0
-LengthRead = LengthBy with_length
+-- a part that fails, or that nothing follows
+pub data Short : Outcome part → Type 0 where
+  short_failed : Short failed
+  short_ended : {t : Tree part} → Short (got t [])
 
--- what the length makes of a part that is read but for it
-pub data Finished (text : List ℕ) (from : Cursor) (first plate : ℕ) : Part → Type 0 where
-  finished_bad : ((f : ℕ → Tree part) → with_length f (ahead text from.at) ≡ failed) → Finished text from first plate Part.Bad
-  finished_read : {l : ℕ} {to : Cursor} → ((f : ℕ → Tree part) → with_length f (ahead text from.at) ≡ got (f l) (ahead text to.at))
-      → from.at ≤ to.at → to.at ≤ length text → to.records ≡ from.records → Finished text from first plate (Part.Read to first l plate)
+-- what is a part but for its length is such a part
+abbrev pub Stopped : List ℕ → Type 0
+Stopped text = (made : ℕ → Tree part) → Short (with_length made (tokens_of text))
 
--- what the readers ask: a place in the text, no more than 127 records before it, and a whole draft
-pub record Readable (text : List ℕ) (c : Cursor) (draft : List ℕ) : Type 0 where
-  pub inside : c.at ≤ length text
-  pub few : c.records ≤ most_records
-  pub long : length draft ≡ draft_size
-
--- the bytes that are left
-abbrev pub left : List ℕ → ℕ → ℕ
-left text at = length text - at
+-- or it has this length, and a token follows
+pub record Followed (text : List ℕ) (l : ℕ) (token : Token) (rest : List ℕ) : Type 0 where
+  pub reads : (made : ℕ → Tree part) → with_length made (tokens_of text) ≡ got (made l) (token ∷ tokens_of rest)
+  pub shorter : length rest < length text
 
 -- the fields of a part's record, k records before it, and the bytes of the records below it
 abbrev pub first_of : ℕ → Tree part → ℕ
 first_of k (taxon p l) = 0
-first_of k (group ms l) = k + 1 + 1
+first_of k (group ms l) = k + 2
 
 abbrev pub branch_of : Tree part → ℕ
 branch_of (taxon p l) = l
@@ -90,64 +89,75 @@ abbrev pub plate_of : Tree part → ℕ
 plate_of (taxon p l) = p
 plate_of (group ms l) = 0
 
+abbrev pub fields_of : ℕ → Tree part → Part
+fields_of k t = record { first = first_of k t; length = branch_of t; plate = plate_of t }
+
 abbrev pub below : List ℕ → ℕ → Tree part → List ℕ
 below pairs k (taxon p l) = []
-below pairs k (group ms l) = rows (price_in pairs) ms (k + 1 + 1) 0
+below pairs k (group ms l) = rows (price_in pairs) ms (k + 2) 0
 
 -- what is read, if anything is, has a property
 pub data IfGot {κ : Kind} (P : Tree κ → Type 0) : Outcome κ → Type 0 where
   if_failed : IfGot P failed
   if_got : {t : Tree κ} {ts : List Token} → P t → IfGot P (got t ts)
 
--- a part was read: the tree, what is left of the text, the fields of its record, and the records below it in the draft
-pub record PartOf (pairs text : List ℕ) (from to : Cursor) (first branch plate : ℕ) (draft after : List ℕ) (t : Tree part) : Type 0 where
-  pub reads : (n : ℕ) → 2 * left text from.at < n → read_in n part (ahead text from.at) ≡ got t (ahead text to.at)
-  pub later : from.at ≤ to.at
-  pub inside : to.at ≤ length text
-  pub few : to.records ≤ most_records
+-- a text of so many bytes takes no more calls
+abbrev pub calls_for : Kind → ℕ → ℕ
+calls_for part n = 2 * n
+calls_for chain n = 2 * n + 1
+
+-- a list that fails
+abbrev pub Failed : Outcome chain → Type 0
+Failed o = o ≡ failed
+
+-- why nothing is drafted of a text, k records before it: what is read of it is bad; or more records than 127, if anything is read
+pub data Unread (κ : Kind) (Bad : Outcome κ → Type 0) (k : ℕ) (text : List ℕ) : Flaw → Type 0 where
+  unread_bad : ((n : ℕ) → calls_for κ (length text) < n → Bad (read_in n κ (tokens_of text))) → Unread κ Bad k text Flaw.Malformed
+  unread_many : ((n : ℕ) → calls_for κ (length text) < n → IfGot (λ (t : Tree κ). most_records < k + count t) (read_in n κ (tokens_of text)))
+      → Unread κ Bad k text Flaw.TooMany
+
+-- a tree is read of a text, these tokens are left, and its records are counted
+pub record TreeRead (κ : Kind) (from to : Draft) (text : List ℕ) (left : List Token) (t : Tree κ) : Type 0 where
+  pub reads : (n : ℕ) → calls_for κ (length text) < n → read_in n κ (tokens_of text) ≡ got t left
   pub counted : to.records ≡ from.records + count t
-  pub first_is : first ≡ first_of from.records t
-  pub branch_is : branch ≡ branch_of t
-  pub plate_is : plate ≡ plate_of t
-  pub drafted : after ≡ over_at (16 * (from.records + 1)) (below pairs from.records t) draft
+  pub pairs_stay : to.pairs.now ≡ from.pairs.now
 
--- no part; more records than 127, if there is one; or a part
-pub data PartRead (pairs text : List ℕ) (from : Cursor) (draft after : List ℕ) : Part → Type 0 where
-  part_bad : ((n : ℕ) → 2 * left text from.at < n → read_in n part (ahead text from.at) ≡ failed)
-      → PartRead pairs text from draft after Part.Bad
-  part_many : ((n : ℕ) → 2 * left text from.at < n → IfGot (λ t. most_records < from.records + count t) (read_in n part (ahead text from.at)))
-      → PartRead pairs text from draft after Part.Many
-  part_read : {to : Cursor} {first branch plate : ℕ} (t : Tree part) → PartOf pairs text from to first branch plate draft after t
-      → PartRead pairs text from draft after (Part.Read to first branch plate)
+-- a part is read: the fields of its record, the token that follows, and the records below it in the draft
+pub record PartRead (from to : Draft) (text : List ℕ) (p : Part) (token : Token) (rest : List ℕ) : Type 0 where
+  pub tree : Tree part
+  pub read : TreeRead part from to text (token ∷ tokens_of rest) tree
+  pub shorter : length rest < length text
+  pub fields : p ≡ fields_of from.records tree
+  pub drafted : to.bytes ≡ over_at (16 * (from.records + 1)) (below from.pairs.now from.records tree) from.bytes
 
--- a list was read
-pub record ListOf (pairs text : List ℕ) (from to : Cursor) (draft after : List ℕ) (ms : Tree chain) : Type 0 where
-  pub reads : (n : ℕ) → 2 * left text from.at + 1 < n → read_in n chain (ahead text from.at) ≡ got ms (ahead text to.at)
-  pub later : from.at < to.at
-  pub inside : to.at ≤ length text
-  pub few : to.records ≤ most_records
-  pub counted : to.records ≡ from.records + count ms
-  pub drafted : after ≡ over_at (16 * from.records) (rows (price_in pairs) ms (from.records + 1) 0) draft
-
-pub data ListRead (pairs text : List ℕ) (from : Cursor) (draft after : List ℕ) : Members → Type 0 where
-  list_bad : ((n : ℕ) → 2 * left text from.at + 1 < n → read_in n chain (ahead text from.at) ≡ failed)
-      → ListRead pairs text from draft after Members.Bad
-  list_many : ((n : ℕ) → 2 * left text from.at + 1 < n
-      → IfGot (λ ms. most_records < from.records + count ms) (read_in n chain (ahead text from.at)))
-      → ListRead pairs text from draft after Members.Many
-  list_read : {to : Cursor} (ms : Tree chain) → ListOf pairs text from to draft after ms
-      → ListRead pairs text from draft after (Members.Read to)
+-- a list is read, with its records in the draft
+pub record ListRead (from to : Draft) (text rest : List ℕ) : Type 0 where
+  pub members : Tree chain
+  pub read : TreeRead chain from to text (tokens_of rest) members
+  pub shorter : length rest < length text
+  pub drafted : to.bytes ≡ over_at (16 * from.records) (rows (price_in from.pairs.now) members (from.records + 1) 0) from.bytes
 
 -- ---- the tree
 
--- no tree; more records than 127, if there is one; or its count, and its records in the draft
-pub data TreeRead (pairs text draft after : List ℕ) : Draft → Type 0 where
-  tree_bad : grown text ≡ unread → TreeRead pairs text draft after Draft.Bad
-  tree_many : ((t : Tree part) → grown text ≡ tree t → most_records < count t) → TreeRead pairs text draft after Draft.Many
-  tree_read : {n : ℕ} (t : Tree part) → grown text ≡ tree t → n ≡ count t → n ≤ most_records → after ≡ over_at 0 (layout (price_in pairs) t) draft
-      → TreeRead pairs text draft after (Draft.Read n)
+-- a text's tree is drafted: its count, and its records at the beginning of the draft
+pub record TreeDrafted (pairs text : List ℕ) (d : Draft) : Type 0 where
+  pub tree_of : Tree part
+  pub grown_is : grown text ≡ tree tree_of
+  pub counted : d.records ≡ count tree_of
+  pub drafted : (draft : List ℕ) × (length draft ≡ 16 * most_records) × (d.bytes ≡ over_at 0 (layout (price_in pairs) tree_of) draft)
+
+-- or none: the text has no tree, or, if it has one, one of more than 127 records
+pub data NotDrafted (text : List ℕ) : Flaw → Type 0 where
+  no_tree : grown text ≡ unread → NotDrafted text Flaw.Malformed
+  large_tree : ((t : Tree part) → grown text ≡ tree t → most_records < count t) → NotDrafted text Flaw.TooMany
 
 -- ---- pairs and records
+
+-- the pairs among numbers, of which a last one by itself is none
+abbrev pub by_two : List ℕ → List (List ℕ)
+by_two [] = []
+by_two (q ∷ []) = []
+by_two (q ∷ (c ∷ rest)) = (q ∷ (c ∷ [])) ∷ by_two rest
 
 -- record r is a taxon without exactly one pair
 abbrev pub unpaired : List ℕ → List ℕ → ℕ → Bool

@@ -3,11 +3,12 @@
 #![tactic(auto)]
 
 mod answer;
-mod cursor;
+mod draft;
+mod flaw;
 mod pairs;
 mod part;
+mod place;
 mod reader;
-mod record;
 mod scan;
 
 pub use answer::Figures;

@@ -4,36 +4,37 @@ ghost use Rattle.lists.specs.Lists.{anywhere};
 ghost use Rattle.outline.specs.Outline.{records, IsRecord};
 ghost use Rattle.newick.specs.Pairs.{price_in, pairs_of, paired, bad_pairs};
 ghost use Rattle.newick.specs.Inner.{plates_of};
-ghost use Rattle.reading.specs.Inner.{unpaired, unmatched};
+ghost use Rattle.reading.specs.Inner.{by_two, unpaired, unmatched};
 
 use outline::fields::{is_taxon, plate_of};
 use outline::rules::holder_of;
+
+// The pairs among numbers; a last number by itself is none.
+fn by_two(pairs: &[u32]) -> &[[u32; 2]]
+    ensures { result.now ≡ by_two pairs.now }
+{
+    pairs.as_chunks::<2>().0
+}
 
 // The price of the first pair of a plate, 0 if there is none.
 pub fn price_in(pairs: &[u32], plate: u32) -> u32
     ensures { result ≡ price_in pairs.now plate }
 {
-    let mut i = 0;
-    while i + 1 < pairs.len() {
-        if pairs[i] == plate {
-            return pairs[i + 1];
-        }
-        i += 2;
+    match by_two(pairs).iter().find(|pair| pair[0] == plate) {
+        Some(pair) => pair[1],
+        None => 0,
     }
-    0
 }
 
 // How many pairs a plate has.
 fn pairs_of(pairs: &[u32], plate: u32) -> usize
     ensures { result ≡ pairs_of pairs.now plate }
 {
-    let mut sum = 0;
-    let mut i = 0;
-    while i + 1 < pairs.len() {
-        sum += (pairs[i] == plate) as usize;
-        i += 2;
-    }
-    sum
+    // without a branch: `filter` and `count` take longer
+    by_two(pairs)
+        .iter()
+        .map(|pair| (pair[0] == plate) as usize)
+        .sum()
 }
 
 // Whether record r is a taxon without exactly one pair.
@@ -52,14 +53,7 @@ fn any_unpaired(o: &[u8], pairs: &[u32]) -> bool
     ensures { result ≡ anywhere (unpaired o.now pairs.now) (records o.now) }
 {
     let n = o.len() / 16;
-    let mut r = 1;
-    while r <= n {
-        if is_unpaired(o, pairs, r) {
-            return true;
-        }
-        r += 1;
-    }
-    false
+    (1..n + 1).any(|r| is_unpaired(o, pairs, r))
 }
 
 // Whether a pair is without a taxon.
@@ -67,14 +61,9 @@ fn any_unmatched(o: &[u8], pairs: &[u32]) -> bool
     ensures { result ≡ anywhere (unmatched o.now) (paired pairs.now) }
 {
     let n = o.len() / 16;
-    let mut i = 0;
-    while i + 1 < pairs.len() {
-        if holder_of(o, pairs[i], n).is_none() {
-            return true;
-        }
-        i += 2;
-    }
-    false
+    by_two(pairs)
+        .iter()
+        .any(|pair| holder_of(o, pair[0], n).is_none())
 }
 
 // Whether the pairs are not those of the taxa.

@@ -1,11 +1,16 @@
-use Rattle.reading.proofs.Pairing.{price_here, price_later, price_none}
+-- `reading::pairs::price_in` meets its contract: the first pair of the plate is looked for.
+use Rattle.std.proofs.Common.{ap, rules, tests, ◌∙◌}
+use Rattle.std.proofs.lemmas.Iterator.{YieldsList-from_slice}
+use Rattle.std.proofs.lemmas.Iterator.Search.{find_from_yields_List}
+use Rattle.reading.proofs.Pairing.{of_plate, price_of, found_price}
 use Rattle.reading.proofs.pairs.price_in.Goals as goal
 
-pub returns-then-pairs-i : goal.returns-then-pairs-i
-returns-then-pairs-i c = price_here _ c.loop-i.invariant c.loop-i-test.true c.if-pairs-i.true
+pub returns-in-Some : goal.returns-in-Some
+returns-in-Some c =
+    let found = find_from_yields_List (of_plate c.args.plate) _ _ c.find.result c.find.ensures.ran (YieldsList-from_slice c.by_two.result.now cc) (λ x b q k. search (rules, tests)) in
+    ap price_of (rw c.in-Some.is at found) ∙ rw c.by_two.ensures (found_price c.args.pairs.now c.args.plate)
 
-pub loop-i-preserved : goal.loop-i-preserved
-loop-i-preserved c = price_later _ c.loop-i.invariant c.loop-i-test.true c.if-pairs-i.false
-
-pub returns : goal.returns
-returns c = price_none _ c.loop-i.invariant c.loop-i-test.false
+pub returns-in-None : goal.returns-in-None
+returns-in-None c =
+    let found = find_from_yields_List (of_plate c.args.plate) _ _ c.find.result c.find.ensures.ran (YieldsList-from_slice c.by_two.result.now cc) (λ x b q k. search (rules, tests)) in
+    ap price_of (rw c.in-None.is at found) ∙ rw c.by_two.ensures (found_price c.args.pairs.now c.args.plate)

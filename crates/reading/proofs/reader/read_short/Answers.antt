@@ -3,13 +3,13 @@ use Rattle.reading.proofs.Answers.{bad_answered, many_answered, none_answered, p
 use Rattle.reading.proofs.reader.read_short.Goals as goal
 
 pub returns-then-is_tree : goal.returns-then-is_tree
-returns-then-is_tree c = many_answered _ _ _ c.requires c.in-Many.ensures c.if-is_tree.ensures
+returns-then-is_tree c = many_answered _ _ _ c.requires (rw c.in-Err-TooMany.field-0-is at c.in-Err-TooMany.ensures) c.if-is_tree.ensures
 
-pub returns-in-Bad : goal.returns-in-Bad
-returns-in-Bad c = bad_answered _ _ _ c.requires c.in-Bad.ensures
+pub returns-in-Err-Malformed : goal.returns-in-Err-Malformed
+returns-in-Err-Malformed c = bad_answered _ _ _ c.requires (rw c.in-Err-Malformed.field-0-is at c.in-Err-Malformed.ensures)
 
 pub returns-else-is_tree : goal.returns-else-is_tree
 returns-else-is_tree c = none_answered _ _ _ c.requires c.if-is_tree.ensures
 
-pub returns-in-Read : goal.returns-in-Read
-returns-in-Read c = placed_answered _ _ _ c.requires c.in-Read.ensures c.place.ensures
+pub returns-in-Ok : goal.returns-in-Ok
+returns-in-Ok c = placed_answered _ _ _ c.requires c.in-Ok.ensures c.place.ensures

@@ -1,0 +1,23 @@
+use Rattle.std.proofs.Common.{refl}
+use Rattle.reading.proofs.Scanning.{descending_starts, descending_ends, descending_fails, descending_goes, descending_stops, descending_taken}
+use Rattle.reading.proofs.place.Place.past_taxon.Goals as goal
+
+pub loop-token-init : goal.loop-token-init
+loop-token-init c = descending_starts _ _
+
+pub loop-token-preserved : goal.loop-token-preserved
+loop-token-preserved c = descending_goes c.loop-token.invariant c.in_ok-token.ensures c.in-Open.is
+
+pub returns-in_err-token : goal.returns-in_err-token
+returns-in_err-token c = rw c.from_residual.ensures (descending_ends c.loop-token.invariant c.in_err-token.ensures)
+
+pub returns-in_err-token-in-Number : goal.returns-in_err-token-in-Number
+returns-in_err-token-in-Number c =
+    rw c.from_residual-in_err-token-in-Number.ensures
+    (descending_stops c.loop-token.invariant c.in_ok-token.ensures c.in-Number.is c.in_err-token-in-Number.ensures)
+
+pub returns-in-Number : goal.returns-in-Number
+returns-in-Number c = descending_taken c.loop-token.invariant c.in_ok-token.ensures c.in-Number.is c.in_ok-token-in-Number.ensures refl
+
+pub returns-in_default : goal.returns-in_default
+returns-in_default c = descending_fails c.loop-token.invariant c.in_ok-token.ensures c.in_default.not-Open c.in_default.not-Number
