@@ -1,5 +1,5 @@
 -- What the functions behind `check` and `find` speak of: record numbers and counted links.
-use Rattle.std.specs.Prelude.{if◌then◌else◌, ℕ, ◌+◌, ◌≤◌, ◌<◌, ◌≡◌, Bool, List, ltb, get_or, set}
+use Rattle.std.specs.Prelude.{if◌then◌else◌, ℕ, ◌+◌, ◌≤◌, ◌<◌, ◌≡◌, List, ltb, get_or, set}
 use Rattle.outline.specs.Outline.{size}
 use Rattle.outline.specs.Rules.{named, most_records}
 
