@@ -13,10 +13,10 @@ returns c =
     let beside = c.requires.beside in
     made_row _ c.each_column.ensures
     (λ m b d least most same given.
-    let made : view d
-    ≡ better_of (join_of (charge_of (cell m.now (a.own + b)) 0 a.above) (better_of (cell m.now (a.x + (b - a.cost))) (cell m.now (a.y + (b - a.cost))))) (cell m.now (a.z + b))
-    = search rules in
+    let follows = better_of (cell m.now (a.x + (b - a.cost))) (cell m.now (a.y + (b - a.cost))) in
+    let made : view d ≡ better_of (join_of (charge_of (cell m.now (a.own + b)) 0 a.above) follows) (cell m.now (a.z + b)) = search rules in
     let own = ap (λ e. charge_of e 0 a.above) (aside_same same most c.requires.taken.aside) in
-    let next = ap₂ better_of (apart_same same most beside.first_apart (omega arith)) (apart_same same most beside.second_apart (omega arith)) in
+    let first = apart_same same most beside.first_apart (omega arith) in
+    let next = ap₂ better_of first (apart_same same most beside.second_apart (omega arith)) in
     let joined = ap₂ join_of own next ∙ join_from_lem _ _ (better_row (row_at a.work.now a.x) (row_at a.work.now a.y)) b least in
     made ∙ ap₂ better_of joined (aside_same same most c.requires.over.aside))

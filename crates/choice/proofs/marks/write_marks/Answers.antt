@@ -6,9 +6,6 @@ use Rattle.choice.proofs.marks.write_marks.Goals.{then-is_taxon, else-is_taxon}
 pub loop-r-init : goal.loop-r-init
 loop-r-init c = reading_starts _ _ _ c.requires
 
-pub is_taxon-requires : goal.is_taxon-requires
-is_taxon-requires c = record { low = omega arith; high = omega (arith, decode_long c.args.o.now c.args.set) }
-
 pub loop-r-preserved : goal.loop-r-preserved
 loop-r-preserved c =
     let h = c.loop-r.invariant in
