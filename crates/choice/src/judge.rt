@@ -18,7 +18,8 @@ pub fn work_taken(outline: &[u8], count: u32) -> usize
     4 * ((outline.len() / 16 + 2) * (count as usize + 1))
 }
 
-// The first row that holds.
+// The first row that holds. The way stays a number down to the table: C hands it over, row 1 answers any that is none, and the
+// definitions count by it; an enum would ask more of who calls `measure` and `fill`, which count any other number as unrooted.
 pub fn judge(
     outline: &[u8],
     count: u32,

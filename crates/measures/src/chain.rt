@@ -60,5 +60,5 @@ pub fn measure_chain(o: &[u8], r: usize, marks: &[u8], all: u32) -> Measure
     let own = measure_clade(o, r, marks, all, members);
     let n = next_of(o, r);
     let rest = measure_chain(o, n, marks, all);
-    own.plus(rest)
+    own + rest
 }

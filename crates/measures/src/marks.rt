@@ -16,6 +16,7 @@ pub fn marked(o: &[u8], marks: &[u8]) -> u32
 
 // The measures of the marked set, its diversity by the way of counting: rooted for 0, else unrooted. The unrooted way counts a
 // branch with some of all chosen taxa below it and some elsewhere; the rooted one has, so to say, one more of them above the root.
+// The way is the number that C hands over: an enum would ask more of the caller.
 pub fn measure(o: &[u8], marks: &[u8], way: u32) -> Measure
     requires { Measurable o.now marks.now }
     ensures { Measured o.now marks.now way result }

@@ -1,4 +1,5 @@
 // The classes of bytes, by which the reader decides.
+
 // What a byte is in a text.
 #[derive(Clone, Copy, Debug, PartialEq, Eq)]
 pub enum Sign {

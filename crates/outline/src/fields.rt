@@ -22,7 +22,8 @@ fn long_at(o: &[u8], at: usize) -> u32
     u32::from_le_bytes([o[at], o[at + 1], o[at + 2], o[at + 3]])
 }
 
-// The record of the next member under the same heading, 0 if there is none.
+// The record of the next member under the same heading, 0 if there is none, as the record has it: a link that no check has passed
+// may be any number, and a row's place is reckoned from it, 0 too.
 pub fn next_of(o: &[u8], r: usize) -> usize
     requires { IsRecord o.now r }
     ensures { result ≡ next o.now r }
@@ -30,7 +31,7 @@ pub fn next_of(o: &[u8], r: usize) -> usize
     short_at(o, 16 * (r - 1)) as usize
 }
 
-// The record of the first member, 0 at a taxon.
+// The record of the first member, 0 at a taxon, as the record has it.
 pub fn first_of(o: &[u8], r: usize) -> usize
     requires { IsRecord o.now r }
     ensures { result ≡ first o.now r }

@@ -55,7 +55,7 @@ pub extern "C" fn plates_check(outline: &[u8], place: &mut u32) -> u32
     }
 }
 
-// The record of the taxon of a plate; 0 where the finder's part is empty.
+// The record of the taxon of a plate, 0 for none, as C asks.
 #[unsafe(no_mangle)]
 pub extern "C" fn plates_find(outline: &[u8], plate: u32) -> u32
     ensures { result ≡ found_at outline.now plate }

@@ -46,7 +46,7 @@ impl Refusal {
         }
     }
 
-    // The lowest record at fault, 0 for a refusal of the whole.
+    // The lowest record at fault, 0 for a refusal of the whole, as the table and the C interface have it.
     pub fn place(self) -> usize
         ensures { result ≡ (refusal self).place }
     {

@@ -1,4 +1,5 @@
-// The first taxon of a set outside each chain, by its place.
+// The first taxon of a set outside each chain, by its place. The loop goes by number: each turn reads at a record's number and writes
+// at those that its links hold.
 ghost use Rattle.std.specs.Prelude.{if◌then◌else◌, ◌≡◌, eqb};
 ghost use Rattle.sheet.specs.Inner.{no_place, HasFirsts, Outsides};
 

@@ -1,4 +1,5 @@
-// What each record adds to the quarters and to the diversity of the taxa before it.
+// What each record adds to the quarters and to the diversity of the taxa before it. Two short loops: one loop that took what is added,
+// and where, from closures would need two contracts at each caller, longer than the loop.
 ghost use Rattle.diversity.specs.Diversity.{diversity, cost};
 ghost use Rattle.sheet.specs.Inner.{HasFirsts, Adds};
 

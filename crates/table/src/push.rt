@@ -19,7 +19,7 @@ fn follow_row(work: &mut [u64], to: usize, after: usize, rest: usize, width: usi
 }
 
 // Pushes the row at `after` through the chain of record r, to the row at `to`. Gives the cell where the pushed row stands:
-// `to`, or 0 for no record.
+// `to`, or 0 for no record, which is no absence: at cell 0 stands the row that has no set in any column.
 pub fn push(o: &[u8], r: usize, after: usize, to: usize, width: usize, work: &mut [u64]) -> usize
     requires { Pushable o.now r after to width work.old }
     ensures { Pushed o.now r after to width work.old work.new result }

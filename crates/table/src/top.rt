@@ -9,7 +9,7 @@ use cells::candidate::Candidate;
 use cells::memory::{better_rows, fill_row, read};
 
 // Fills the table of an accepted outline, for all columns at once. The first rows are that of no set, that of nothing chosen, and
-// the top row.
+// the top row. The way is the number that C hands over: an enum would ask more of the caller.
 pub fn fill(o: &[u8], way: u32, width: usize, work: &mut [u64])
     requires { Fillable o.now width work.old }
     ensures { Filled o.now way width work.new }

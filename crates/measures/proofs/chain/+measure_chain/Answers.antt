@@ -16,11 +16,11 @@ measure_chain-rest-requires t c =
     let later = c.requires.base.formed.linked.next_later c.args.r (omega arith) c.requires.most in
     rw c.next_of-n.ensures (omega (arith, left_less _ _ _ (omega arith) c.requires.most later), record { base = c.requires.base; most = later.most })
 
-pub plus-requires : goal.plus-requires
-plus-requires t c =
+pub add-requires : goal.add-requires
+add-requires t c =
     parts_addable c.requires.base (omega arith) c.requires.most c.measure_clade-own.ensures (rw c.next_of-n.ensures at c.measure_chain-rest.ensures)
 
 pub returns : goal.returns
 returns t c =
     chain_measured c.requires.base (omega arith) c.requires.most c.measure_clade-own.ensures
-    (rw c.next_of-n.ensures at c.measure_chain-rest.ensures) c.plus.ensures
+    (rw c.next_of-n.ensures at c.measure_chain-rest.ensures) c.add.ensures
