@@ -70,7 +70,7 @@ module _ {o s : List ℕ} {r : ℕ} {sums : Sums} (u : SumsUpTo o s r sums) wher
   known_before q l h = (u.added_are.before q l h, u.costs_are.before q l h)
 
 -- ---- the record that is looked at
-module _ {o s parents held : List ℕ} {sums : Sums} {hand r : ℕ} (l : LookAt o s parents held sums hand r) where
+module _ {o s parents held : List ℕ} {sums : Sums} {r : ℕ} (l : LookAt o s parents held sums r) where
   abbrev formed : WellFormed o
   formed = l.ready.base.base.formed
 
@@ -89,9 +89,9 @@ module _ {o s parents held : List ℕ} {sums : Sums} {hand r : ℕ} (l : LookAt 
     sums_pass = record { added_are = gains_pass l.sums_are.added_are adds_nothing; costs_are = gains_pass l.sums_are.costs_are costs_nothing }
 
     -- so it is not picked
-    pub held_kept : (b : ℕ) → hand ≡ in_hand o b s hand r
+    pub held_kept : (b hand : ℕ) → hand ≡ in_hand o b s hand r
     unfolding in_hand can_pick
-    held_kept b = rw (adds_nothing, and-false, and-false, and-false) refl
+    held_kept b hand = rw (adds_nothing, and-false, and-false, and-false) refl
 
     -- and counts for nothing
     pub held_part : (b : ℕ) → 0 ≡ ceiling_part o b s r

@@ -5,7 +5,7 @@ ghost use Rattle.outline.specs.Outline.{records};
 ghost use Rattle.quick.specs.Quick.{ceiling};
 ghost use Rattle.quick.specs.Inner.{ceiling_part, LookAt, PartAt, HasHeld, Bounded};
 
-use super::sums::{Sums, add_up, no_sums};
+use super::sums::Sums;
 use outline::fields::{is_taxon, price_of};
 use outline::limits::NUMBERS;
 
@@ -19,13 +19,13 @@ fn part_at(
     sums: &mut Sums,
     r: usize,
 ) -> u32
-    requires { LookAt o.now marks.now parents.now held.now sums.old 0 r }
+    requires { LookAt o.now marks.now parents.now held.now sums.old r }
     ensures { PartAt o.now count marks.now sums.new r result }
 {
     if held[r] == 1 {
         return 0;
     }
-    add_up(o, parents, sums, r);
+    sums.add_up(o, parents, r);
     let open = marks[r - 1] != 1;
     if is_taxon(o, r) & (open & (price_of(o, r) <= count)) {
         return sums.added[r];
@@ -44,13 +44,10 @@ fn parts_of(
     requires { HasHeld o.now marks.now parents.now held.now }
     ensures { result ≡ total (ceiling_part o.now count marks.now) (records o.now) }
 {
-    let n = o.len() / 16;
-    let mut sums = no_sums();
+    let mut sums = Sums::none();
     let mut sum = 0;
-    let mut r = 1;
-    while r <= n {
+    for r in 1..=o.len() / 16 {
         sum += part_at(o, marks, parents, held, count, &mut sums, r) as u64;
-        r += 1;
     }
     sum
 }

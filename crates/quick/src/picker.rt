@@ -1,24 +1,20 @@
 // Picking one taxon: the greatest added diversity, then the fewest added quarters, then the lowest record. The set is marked, and `held`
 // are the records that count for it; `room` is how many quarters are left.
-ghost use Rattle.std.specs.Prelude.{◌≡◌, ◌+◌, ◌<◌, get_or};
+ghost use Rattle.std.specs.Prelude.{◌≡◌, ◌+◌, ◌<◌};
 ghost use Rattle.outline.specs.Inner.{numbers};
 ghost use Rattle.diversity.specs.Diversity.{cost};
-ghost use Rattle.quick.specs.Quick.{can_pick, in_hand};
-ghost use Rattle.quick.specs.Inner.{rather_by, SumsLong, KnownAt, HandAt, LookAt, LookedAt, HasHeld, NextPick};
+ghost use Rattle.quick.specs.Quick.{can_pick, in_hand, picked};
+ghost use Rattle.quick.specs.Inner.{pick_of, taxon_of, comes_first, SumsLong, KnownAt, HandAt, InHand, LookAt, LookedAt, HasHeld};
 
-use super::sums::{Sums, add_up, no_sums};
+use super::sums::Sums;
 use outline::fields::is_taxon;
 use outline::limits::NUMBERS;
 
-// Whether record t is picked rather than u.
-fn rather(sums: &Sums, t: usize, u: usize) -> bool
-    requires { SumsLong sums.now × ((t < numbers) × (u < numbers)) }
-    ensures { result ≡ rather_by
-        (get_or sums.now.added t 0) (get_or sums.now.added u 0)
-        (get_or sums.now.costs t 0) (get_or sums.now.costs u 0) t u }
-{
-    let cheaper = (sums.costs[t] < sums.costs[u]) | ((sums.costs[t] == sums.costs[u]) & (t < u));
-    (sums.added[u] < sums.added[t]) | ((sums.added[t] == sums.added[u]) & cheaper)
+// A taxon to be picked, and the quarters that it adds.
+#[derive(Clone, Copy)]
+pub struct Pick {
+    pub taxon: usize,
+    pub quarters: u32,
 }
 
 // Whether record t is a taxon that is not in the set, still fits with its headings, and adds more than 0.
@@ -30,13 +26,34 @@ fn can_pick(o: &[u8], marks: &[u8], room: u32, sums: &Sums, t: usize) -> bool
     is_taxon(o, t) & (open & ((sums.costs[t] <= room) & (0 < sums.added[t])))
 }
 
-// The record in hand, after record t was looked at; 0 for none.
-fn in_hand(o: &[u8], marks: &[u8], room: u32, sums: &Sums, hand: usize, t: usize) -> usize
-    requires { HandAt o.now marks.now sums.now hand t }
-    ensures { result ≡ in_hand o.now (cost o.now marks.now + room) marks.now hand t }
+// Whether record t is picked rather than what is in hand.
+fn comes_first(sums: &Sums, t: usize, hand: Option<Pick>) -> bool
+    requires { SumsLong sums.now × ((t < numbers) × (taxon_of hand < numbers)) }
+    ensures { result ≡ comes_first sums.now t hand }
 {
-    if can_pick(o, marks, room, sums, t) & ((hand == 0) | rather(sums, t, hand)) {
-        return t;
+    match hand {
+        None => true,
+        Some(pick) => sums.rather(t, pick.taxon),
+    }
+}
+
+// What is in hand, after record t was looked at.
+fn in_hand(
+    o: &[u8],
+    marks: &[u8],
+    room: u32,
+    sums: &Sums,
+    hand: Option<Pick>,
+    t: usize,
+) -> Option<Pick>
+    requires { HandAt o.now marks.now sums.now hand t }
+    ensures { result ≡ pick_of o.now marks.now (in_hand o.now (cost o.now marks.now + room) marks.now (taxon_of hand) t) }
+{
+    if can_pick(o, marks, room, sums, t) & comes_first(sums, t, hand) {
+        return Some(Pick {
+            taxon: t,
+            quarters: sums.costs[t],
+        });
     }
     hand
 }
@@ -49,47 +66,34 @@ fn look_at(
     held: &[u8; NUMBERS],
     room: u32,
     sums: &mut Sums,
-    hand: usize,
+    hand: Option<Pick>,
     r: usize,
-) -> usize
-    requires { LookAt o.now marks.now parents.now held.now sums.old hand r }
+) -> Option<Pick>
+    requires { LookAt o.now marks.now parents.now held.now sums.old r × InHand o.now marks.now hand r }
     ensures { LookedAt o.now marks.now (cost o.now marks.now + room) sums.new hand r result }
 {
     if held[r] == 1 {
         return hand;
     }
-    add_up(o, parents, sums, r);
+    sums.add_up(o, parents, r);
     in_hand(o, marks, room, sums, hand, r)
 }
 
-// A taxon to be picked, 0 if there is none, and the quarters that it adds.
-#[derive(Clone, Copy)]
-pub struct Pick {
-    pub taxon: usize,
-    pub quarters: u32,
-}
-
-// The next pick.
+// The next pick, if there is one.
 pub fn next_pick(
     o: &[u8],
     marks: &[u8],
     parents: &[usize; NUMBERS],
     held: &[u8; NUMBERS],
     room: u32,
-) -> Pick
+) -> Option<Pick>
     requires { HasHeld o.now marks.now parents.now held.now }
-    ensures { NextPick o.now (cost o.now marks.now + room) marks.now result }
+    ensures { result ≡ pick_of o.now marks.now (picked o.now (cost o.now marks.now + room) marks.now) }
 {
-    let n = o.len() / 16;
-    let mut sums = no_sums();
-    let mut hand = 0;
-    let mut r = 1;
-    while r <= n {
+    let mut sums = Sums::none();
+    let mut hand = None;
+    for r in 1..=o.len() / 16 {
         hand = look_at(o, marks, parents, held, room, &mut sums, hand, r);
-        r += 1;
     }
-    Pick {
-        taxon: hand,
-        quarters: sums.costs[hand],
-    }
+    hand
 }

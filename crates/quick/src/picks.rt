@@ -20,15 +20,12 @@ pub fn make_picks(
     ensures { PicksDone o.now count picks marks.old marks.new held.new }
 {
     let mut spent = measure(o, marks, 0).cost;
-    let mut left = picks;
-    while left != 0 {
-        let pick = next_pick(o, marks, parents, held, count - spent);
-        if pick.taxon == 0 {
+    for _ in 0..picks {
+        let Some(pick) = next_pick(o, marks, parents, held, count - spent) else {
             return;
-        }
+        };
         marks[pick.taxon - 1] = 1;
         hold(parents, held, pick.taxon);
         spent += pick.quarters;
-        left -= 1;
     }
 }

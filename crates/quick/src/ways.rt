@@ -11,16 +11,13 @@ pub fn parents_of(o: &[u8]) -> [usize; NUMBERS]
     requires { WellFormed o.now }
     ensures { Parents o.now result }
 {
-    let n = o.len() / 16;
     let mut parents = [0; NUMBERS];
-    let mut r = 1;
-    while r <= n {
+    for r in 1..=o.len() / 16 {
         let first = first_of(o, r);
         let next = next_of(o, r);
         let parent = parents[r];
         parents[first] = r;
         parents[next] = parent;
-        r += 1;
     }
     parents
 }
@@ -45,14 +42,11 @@ pub fn held_of(o: &[u8], marks: &[u8], parents: &[usize; NUMBERS]) -> [u8; NUMBE
     requires { HasParents o.now marks.now parents.now }
     ensures { HeldIn o.now marks.now result }
 {
-    let n = o.len() / 16;
     let mut held = [0; NUMBERS];
-    let mut r = 1;
-    while r <= n {
+    for r in 1..=o.len() / 16 {
         if marks[r - 1] == 1 {
             hold(parents, &mut held, r);
         }
-        r += 1;
     }
     held
 }

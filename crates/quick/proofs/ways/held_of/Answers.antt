@@ -29,3 +29,16 @@ loop-r-preserved c =
 
 pub returns : goal.returns
 returns c = gathering_ends c.loop-r.invariant (omega (arith, c.loop-r-test.false, c.requires.base.is_set.whole))
+
+-- after the last record
+pub returns-after-marks-r-eq1 : goal.returns-after-marks-r-eq1
+unfolding chosen
+returns-after-marks-r-eq1 c =
+    let h = c.loop-r.invariant in
+    let p = c.requires in
+    elim c.if-marks-r-eq1.branch [
+      | then-marks-r-eq1 w ↦
+          let last = gathering_holds p.base.formed.linked p.parents_are _ h c.loop-r-test.true (eq-eqb _ _ w.if-marks-r-eq1.true) w.hold.ensures in
+          rw w.held-is (gathering_ends last (omega (arith, p.base.is_set.whole)))
+      | else-marks-r-eq1 w ↦ rw w.held-is (gathering_ends (gathering_passes _ h (ne_eqb _ _ w.if-marks-r-eq1.false)) (omega (arith, p.base.is_set.whole)))
+    ]
