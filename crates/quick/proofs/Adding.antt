@@ -8,12 +8,11 @@ use lib.Dec.{eqb, leb}
 use lib.ListN.{get_or, set, replicate, length-set, length-replicate}
 use lib.Seq.{get_or-set_same, get_or-set_other}
 use borrow.Author.Tests.{eqb-true, eqb-false}
-use Rattle.lists.specs.Lists.{one}
 use Rattle.outline.specs.Inner.{numbers}
 use Rattle.outline.specs.Outline.{branch, price, is_taxon}
 use Rattle.outline.specs.WellFormed.{WellFormed}
 use Rattle.diversity.specs.Diversity.{chosen, within}
-use Rattle.laws.proofs.Sums.{one_true, if_zero}
+use Rattle.laws.proofs.Sums.{if_zero}
 use Rattle.measures.proofs.Locking.{zeros_at}
 use Rattle.quick.specs.Quick.{with_taxon, added, added_cost, can_pick, in_hand}
 use Rattle.quick.specs.Inner.{GainsUpTo, SumsUpTo, NoSums, SumsLong, CanAdd, AddedUp, Known, LookAt, ceiling_part}
@@ -70,14 +69,14 @@ module _ {o s : List ℕ} {r : ℕ} {sums : Sums} (u : SumsUpTo o s r sums) wher
   known_before q l h = (u.added_are.before q l h, u.costs_are.before q l h)
 
 -- ---- the record that is looked at
-module _ {o s parents held : List ℕ} {sums : Sums} {r : ℕ} (l : LookAt o s parents held sums r) where
+module _ {o s parents : List ℕ} {held : List Bool} {sums : Sums} {r : ℕ} (l : LookAt o s parents held sums r) where
   abbrev formed : WellFormed o
   formed = l.ready.base.base.formed
 
   -- it is held
-  module _ (e : get_or held r 0 ≡ 1) where
+  module _ (e : get_or held r false ≡ true) where
     counts : within o s r ≡ true
-    counts = one_true (within o s r) (omega (arith, e, l.ready.held_are.at_record r l.is_record))
+    counts = sym (l.ready.held_are.at_record r l.is_record) ∙ e
 
     pub adds_nothing : added o s r ≡ 0
     adds_nothing = gain_held o formed.linked s l.ready.base.base.is_set (branch o) (added_sum o s) l.is_record counts
@@ -98,13 +97,9 @@ module _ {o s parents held : List ℕ} {sums : Sums} {r : ℕ} (l : LookAt o s p
     held_part b = rw adds_nothing (sym (if_zero (is_taxon o r && (not (chosen s r) && leb (price o r) b))))
 
   -- it is not
-  module _ (n : get_or held r 0 ≡ 1 → ⊥) where
+  module _ (n : get_or held r false ≡ false) where
     fresh : within o s r ≡ false
-    fresh = go (within o s r) refl
-      where
-        go : (b : Bool) → within o s r ≡ b → b ≡ false
-        go true e = absurd (n (l.ready.held_are.at_record r l.is_record ∙ ap one e))
-        go false e = refl
+    fresh = sym (l.ready.held_are.at_record r l.is_record) ∙ n
 
     added_up : get_or sums.added (get_or parents r 0) 0 + branch o r ≡ added o s r
     added_up =

@@ -2,7 +2,7 @@
 use Rattle.std.specs.Prelude.{Ok, Err}
 use Prim.Native.Nat.{ℕ, ◌≤◌}
 use mathlib.Core.Path.{◌≡◌, sym, ap, ◌∙◌}
-use mathlib.Core.Bool.{false}
+use mathlib.Core.Bool.{Bool, false}
 use mathlib.Core.List.{List, ◌++◌, append-nil}
 use native.Mathlib.Omega.{arith}
 use lib.Dec.{eqb, ltb}
@@ -45,14 +45,14 @@ module _ {o : List ℕ} {b : ℕ} {marks : List ℕ} (h : Fillable o b marks) wh
     pub locked_has_parents : HasParents o (locked_set o) parents
     locked_has_parents = record { base = record { formed = h.formed; is_set = locked_is_set o }; parents_are = ps }
 
-    pub locked_ready : {held : List ℕ} → HeldIn o (locked_set o) held → PicksFit o parents b (locked_set o) held
+    pub locked_ready : {held : List Bool} → HeldIn o (locked_set o) held → PicksFit o parents b (locked_set o) held
     locked_ready x = record { ready = record { base = locked_has_parents; held_are = x }; fits = (locked_good o b h.locked_fit).1 }
 
-    pub quick_has_held : (k : ℕ) {held : List ℕ} → HeldIn o (quick o b k) held → HasHeld o (quick o b k) parents held
+    pub quick_has_held : (k : ℕ) {held : List Bool} → HeldIn o (quick o b k) held → HasHeld o (quick o b k) parents held
     quick_has_held k x = record { base = record { base = record { formed = h.formed; is_set = (good k).0 }; parents_are = ps }; held_are = x }
 
 -- after the picks the choice is marked
-pub picks_quick : {o : List ℕ} {b k : ℕ} {marked s held : List ℕ} → marked ≡ locked_set o → PicksDone o b k marked s held → s ≡ quick o b k
+pub picks_quick : {o : List ℕ} {b k : ℕ} {marked s : List ℕ} {held : List Bool} → marked ≡ locked_set o → PicksDone o b k marked s held → s ≡ quick o b k
 unfolding quick
 picks_quick {o} {b} {k} e d = d.set_is ∙ ap (after_picks o b k) e
 

@@ -2,7 +2,7 @@
 use Rattle.std.specs.Prelude.{Option, None, Some}
 use Prim.Native.Nat.{ℕ, zero, suc, ◌+◌, ◌*◌, ◌-◌, ◌≤◌, ◌<◌}
 use mathlib.Core.Path.{◌≡◌, refl, sym, ap, subst, ◌∙◌}
-use mathlib.Core.Bool.{true, false}
+use mathlib.Core.Bool.{Bool, true, false}
 use mathlib.Core.List.{List}
 use native.Mathlib.Omega.{arith}
 use lib.Dec.{eqb}
@@ -21,13 +21,13 @@ use Rattle.quick.proofs.Picking.{Good, picked_most, picking}
 use Rattle.quick.proofs.Taxon.{with_chosen, cost_with}
 
 -- a loop's invariant: the picks that are left, of k less those made, lead to the same set
-pub record Taking (o parents : List ℕ) (b : ℕ) (s : List ℕ) (k : ℕ) (marks held : List ℕ) (spent made : ℕ) : Type 0 where
+pub record Taking (o parents : List ℕ) (b : ℕ) (s : List ℕ) (k : ℕ) (marks : List ℕ) (held : List Bool) (spent made : ℕ) : Type 0 where
   pub ready : PicksFit o parents b marks held
   pub spent_is : spent ≡ cost o marks
   pub whole : after_picks o b (k - made) marks ≡ after_picks o b k s
 
 module _ {o parents : List ℕ} {b : ℕ} {s : List ℕ} {k : ℕ} where
-  module _ {marks held : List ℕ} {spent made : ℕ} (h : Taking o parents b s k marks held spent made) {v : Option Pick}
+  module _ {marks : List ℕ} {held : List Bool} {spent made : ℕ} (h : Taking o parents b s k marks held spent made) {v : Option Pick}
       (next : v ≡ pick_of o marks (picked o (cost o marks + (b - spent)) marks)) where
     -- what is left of the page count is room
     next_is : v ≡ pick_of o marks (picked o b marks)
@@ -71,7 +71,7 @@ module _ {o parents : List ℕ} {b : ℕ} {s : List ℕ} {k : ℕ} where
       left_less : made < k → after_picks o b (k - (made + 1)) (with_taxon marks p.taxon) ≡ after_picks o b (k - made) marks
       left_less l = let more : k - made ≡ suc (k - (made + 1)) = omega arith in rw more (sym (one_less _))
 
-      pub taking_goes : {new : List ℕ} → made < k → Joined parents p.taxon held new
+      pub taking_goes : {new : List Bool} → made < k → Joined parents p.taxon held new
           → Taking o parents b s k (set marks (p.taxon - 1) 1) new (spent + p.quarters) (made + 1)
       unfolding with_taxon
       taking_goes {new} l j =
@@ -96,7 +96,7 @@ module _ {o parents : List ℕ} {b : ℕ} {s : List ℕ} {k : ℕ} where
               let one : after_picks o b 1 marks ≡ with_taxon marks p.taxon = one_less 0 ∙ unfold after_picks in refl in
               rw one at ((picking o b 1 marks (h.ready.ready.base.base.is_set, h.ready.fits)).good)
 
-  pub taking_ends : {marks held : List ℕ} {spent made : ℕ} → Taking o parents b s k marks held spent made → k ≤ made → PicksDone o b k s marks held
+  pub taking_ends : {marks : List ℕ} {held : List Bool} {spent made : ℕ} → Taking o parents b s k marks held spent made → k ≤ made → PicksDone o b k s marks held
   taking_ends {marks} {made = made} h l = record { set_is = sym none ∙ h.whole; held_are = h.ready.ready.held_are }
     where
       none : after_picks o b (k - made) marks ≡ marks

@@ -14,7 +14,7 @@ fn part_at(
     o: &[u8],
     marks: &[u8],
     parents: &[usize; NUMBERS],
-    held: &[u8; NUMBERS],
+    held: &[bool; NUMBERS],
     count: u32,
     sums: &mut Sums,
     r: usize,
@@ -22,7 +22,7 @@ fn part_at(
     requires { LookAt o.now marks.now parents.now held.now sums.old r }
     ensures { PartAt o.now count marks.now sums.new r result }
 {
-    if held[r] == 1 {
+    if held[r] {
         return 0;
     }
     sums.add_up(o, parents, r);
@@ -38,7 +38,7 @@ fn parts_of(
     o: &[u8],
     marks: &[u8],
     parents: &[usize; NUMBERS],
-    held: &[u8; NUMBERS],
+    held: &[bool; NUMBERS],
     count: u32,
 ) -> u64
     requires { HasHeld o.now marks.now parents.now held.now }
@@ -57,7 +57,7 @@ pub fn ceiling_of(
     o: &[u8],
     marks: &[u8],
     parents: &[usize; NUMBERS],
-    held: &[u8; NUMBERS],
+    held: &[bool; NUMBERS],
     count: u32,
     diversity: u32,
 ) -> u64

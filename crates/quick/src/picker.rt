@@ -63,7 +63,7 @@ fn look_at(
     o: &[u8],
     marks: &[u8],
     parents: &[usize; NUMBERS],
-    held: &[u8; NUMBERS],
+    held: &[bool; NUMBERS],
     room: u32,
     sums: &mut Sums,
     hand: Option<Pick>,
@@ -72,7 +72,7 @@ fn look_at(
     requires { LookAt o.now marks.now parents.now held.now sums.old r × InHand o.now marks.now hand r }
     ensures { LookedAt o.now marks.now (cost o.now marks.now + room) sums.new hand r result }
 {
-    if held[r] == 1 {
+    if held[r] {
         return hand;
     }
     sums.add_up(o, parents, r);
@@ -84,7 +84,7 @@ pub fn next_pick(
     o: &[u8],
     marks: &[u8],
     parents: &[usize; NUMBERS],
-    held: &[u8; NUMBERS],
+    held: &[bool; NUMBERS],
     room: u32,
 ) -> Option<Pick>
     requires { HasHeld o.now marks.now parents.now held.now }

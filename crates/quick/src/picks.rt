@@ -14,7 +14,7 @@ pub fn make_picks(
     count: u32,
     picks: u32,
     marks: &mut [u8],
-    held: &mut [u8; NUMBERS],
+    held: &mut [bool; NUMBERS],
 )
     requires { PicksFit o.now parents.now count marks.old held.old }
     ensures { PicksDone o.now count picks marks.old marks.new held.new }

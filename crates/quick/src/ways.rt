@@ -23,26 +23,26 @@ pub fn parents_of(o: &[u8]) -> [usize; NUMBERS]
 }
 
 // A taxon joins the set: what is on its way up is held from now on. Above a record that is held already, all are.
-pub fn hold(parents: &[usize; NUMBERS], held: &mut [u8; NUMBERS], t: usize)
+pub fn hold(parents: &[usize; NUMBERS], held: &mut [bool; NUMBERS], t: usize)
     requires { Rising parents.now t held.old }
     ensures { Joined parents.now t held.old held.new }
 {
     let mut at = t;
     while at != 0 {
-        if held[at] == 1 {
+        if held[at] {
             return;
         }
-        held[at] = 1;
+        held[at] = true;
         at = parents[at];
     }
 }
 
 // The records that a marked set holds: those that have a taxon of the set at or below them, so that their branches and prices count.
-pub fn held_of(o: &[u8], marks: &[u8], parents: &[usize; NUMBERS]) -> [u8; NUMBERS]
+pub fn held_of(o: &[u8], marks: &[u8], parents: &[usize; NUMBERS]) -> [bool; NUMBERS]
     requires { HasParents o.now marks.now parents.now }
     ensures { HeldIn o.now marks.now result }
 {
-    let mut held = [0; NUMBERS];
+    let mut held = [false; NUMBERS];
     for r in 1..=o.len() / 16 {
         if marks[r - 1] == 1 {
             hold(parents, &mut held, r);

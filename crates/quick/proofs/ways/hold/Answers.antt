@@ -5,10 +5,10 @@ use Rattle.quick.proofs.ways.hold.Goals as goal
 pub loop-at-init : goal.loop-at-init
 loop-at-init c = going_starts
 
-pub returns-then-held-at-eq1 : goal.returns-then-held-at-eq1
-returns-then-held-at-eq1 c =
+pub returns-then-held-at : goal.returns-then-held-at
+returns-then-held-at c =
     let low : 1 ≤ c.loop-at.at = omega (arith, c.loop-at-test.true) in
-    going_stops c.requires c.loop-at.invariant low c.if-held-at-eq1.true
+    going_stops c.requires c.loop-at.invariant low c.if-held-at.true
 
 pub loop-at-preserved : goal.loop-at-preserved
 loop-at-preserved c =
