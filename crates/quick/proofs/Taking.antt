@@ -2,7 +2,7 @@
 use Rattle.std.specs.Prelude.{Option, None, Some}
 use Prim.Native.Nat.{ℕ, zero, suc, ◌+◌, ◌*◌, ◌-◌, ◌≤◌, ◌<◌}
 use mathlib.Core.Path.{◌≡◌, refl, sym, ap, subst, ◌∙◌}
-use mathlib.Core.Bool.{Bool, true, false}
+use mathlib.Core.Bool.{true, false}
 use mathlib.Core.List.{List}
 use native.Mathlib.Omega.{arith}
 use lib.Dec.{eqb}
@@ -14,6 +14,7 @@ use Rattle.diversity.specs.Diversity.{cost}
 use Rattle.quick.specs.Quick.{with_taxon, added_cost, picked, after_picks}
 use Rattle.quick.specs.Inner.{Joined, pick_of, PicksFit, PicksDone}
 use Rattle.quick.specs.declared.picker.Pick.{Pick}
+use Rattle.quick.specs.declared.ways.Ways.{Ways}
 use Rattle.quick.proofs.Bounds.{cost_bound}
 use Rattle.quick.proofs.Hand.{pick_some, pick_none}
 use Rattle.quick.proofs.Holding.{held_joined}
@@ -21,21 +22,21 @@ use Rattle.quick.proofs.Picking.{Good, picked_most, picking}
 use Rattle.quick.proofs.Taxon.{with_chosen, cost_with}
 
 -- a loop's invariant: the picks that are left, of k less those made, lead to the same set
-pub record Taking (o parents : List ℕ) (b : ℕ) (s : List ℕ) (k : ℕ) (marks : List ℕ) (held : List Bool) (spent made : ℕ) : Type 0 where
-  pub ready : PicksFit o parents b marks held
+pub record Taking (o : List ℕ) (b : ℕ) (s : List ℕ) (k : ℕ) (marks : List ℕ) (w : Ways) (spent made : ℕ) : Type 0 where
+  pub ready : PicksFit o b marks w
   pub spent_is : spent ≡ cost o marks
   pub whole : after_picks o b (k - made) marks ≡ after_picks o b k s
 
-module _ {o parents : List ℕ} {b : ℕ} {s : List ℕ} {k : ℕ} where
-  module _ {marks : List ℕ} {held : List Bool} {spent made : ℕ} (h : Taking o parents b s k marks held spent made) {v : Option Pick}
+module _ {o : List ℕ} {b : ℕ} {s : List ℕ} {k : ℕ} where
+  module _ {marks : List ℕ} {w : Ways} {spent made : ℕ} (h : Taking o b s k marks w spent made) {v : Option Pick}
       (next : v ≡ pick_of o marks (picked o (cost o marks + (b - spent)) marks)) where
     -- what is left of the page count is room
     next_is : v ≡ pick_of o marks (picked o b marks)
     next_is = subst (λ c. v ≡ pick_of o marks (picked o c marks)) (omega (arith, h.spent_is, h.ready.fits.cost_most)) next
 
     -- there is no pick
-    pub taking_stops : v ≡ None → PicksDone o b k s marks held
-    taking_stops z = record { set_is = sym (none (k - made)) ∙ h.whole; held_are = h.ready.ready.held_are }
+    pub taking_stops : v ≡ None → PicksDone o b k s marks w
+    taking_stops z = record { set_is = sym (none (k - made)) ∙ h.whole; ready = h.ready.ready }
       where
         nothing : eqb (picked o b marks) 0 ≡ true
         nothing = eq-eqb _ _ (pick_none o marks _ (sym z ∙ next_is))
@@ -58,7 +59,7 @@ module _ {o parents : List ℕ} {b : ℕ} {s : List ℕ} {k : ℕ} where
 
       pub spent_small : spent + p.quarters ≤ most_records * most_price
       spent_small =
-          let formed = h.ready.ready.base.base.formed in
+          let formed = h.ready.ready.base.formed in
           omega (arith, spent_with, cost_bound o formed (with_taxon marks p.taxon), formed.size_most)
 
       -- and as many are to go as before less one
@@ -71,18 +72,19 @@ module _ {o parents : List ℕ} {b : ℕ} {s : List ℕ} {k : ℕ} where
       left_less : made < k → after_picks o b (k - (made + 1)) (with_taxon marks p.taxon) ≡ after_picks o b (k - made) marks
       left_less l = let more : k - made ≡ suc (k - (made + 1)) = omega arith in rw more (sym (one_less _))
 
-      pub taking_goes : {new : List Bool} → made < k → Joined parents p.taxon held new
-          → Taking o parents b s k (set marks (p.taxon - 1) 1) new (spent + p.quarters) (made + 1)
+      pub taking_goes : {new : Ways} → made < k → Joined w p.taxon new
+          → Taking o b s k (set marks (p.taxon - 1) 1) new (spent + p.quarters) (made + 1)
       unfolding with_taxon
       taking_goes {new} l j =
-          let base = h.ready.ready.base in
+          let was = h.ready.ready in
           let kept : Good o b (with_taxon marks p.taxon) = still_good in
           record {
             ready = record {
               ready = record {
-                base = record { base = record { formed = base.base.formed; is_set = kept.0 }; parents_are = base.parents_are };
-                held_are = held_joined base.base.formed.linked base.parents_are pick_record
-                    (with_chosen o marks base.base.is_set pick_record) h.ready.ready.held_are j;
+                base = record { formed = was.base.formed; is_set = kept.0 };
+                parents_are = rw j.parents_kept was.parents_are;
+                held_are = held_joined was.base.formed.linked was.parents_are pick_record
+                    (with_chosen o marks was.base.is_set pick_record) was.held_are j;
               };
               fits = kept.1;
             };
@@ -94,10 +96,10 @@ module _ {o parents : List ℕ} {b : ℕ} {s : List ℕ} {k : ℕ} where
           still_good : Good o b (with_taxon marks p.taxon)
           still_good =
               let one : after_picks o b 1 marks ≡ with_taxon marks p.taxon = one_less 0 ∙ unfold after_picks in refl in
-              rw one at ((picking o b 1 marks (h.ready.ready.base.base.is_set, h.ready.fits)).good)
+              rw one at ((picking o b 1 marks (h.ready.ready.base.is_set, h.ready.fits)).good)
 
-  pub taking_ends : {marks : List ℕ} {held : List Bool} {spent made : ℕ} → Taking o parents b s k marks held spent made → k ≤ made → PicksDone o b k s marks held
-  taking_ends {marks} {made = made} h l = record { set_is = sym none ∙ h.whole; held_are = h.ready.ready.held_are }
+  pub taking_ends : {marks : List ℕ} {w : Ways} {spent made : ℕ} → Taking o b s k marks w spent made → k ≤ made → PicksDone o b k s marks w
+  taking_ends {marks} {made = made} h l = record { set_is = sym none ∙ h.whole; ready = h.ready.ready }
     where
       none : after_picks o b (k - made) marks ≡ marks
       none = unfold after_picks in let z : k - made ≡ 0 = omega arith in rw z refl

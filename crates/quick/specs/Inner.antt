@@ -12,6 +12,7 @@ use Rattle.quick.specs.Quick.{added, added_cost, in_hand, after_picks, quick}
 use Rattle.quick.specs.Answer.{Figures, figures_of}
 use Rattle.quick.specs.declared.picker.Pick.{Pick}
 use Rattle.quick.specs.declared.sums.Sums.{Sums}
+use Rattle.quick.specs.declared.ways.Ways.{Ways}
 
 -- ---- the way up
 -- a table has the parent of each record
@@ -35,11 +36,12 @@ pub record HeldIn (o s : List ℕ) (held : List Bool) : Type 0 where
   pub at_record : (r : ℕ) → IsRecord o r → get_or held r false ≡ within o s r
 
 -- a way up that can be gone: above a record that is held each is held
-pub record Rising (parents : List ℕ) (t : ℕ) (held : List Bool) : Type 0 where
+pub record Rising (w : Ways) (t : ℕ) : Type 0 where
   pub small : t < numbers
-  pub earlier : Earlier t parents
-  pub long : length held ≡ numbers
-  pub closed : (r : ℕ) → 1 ≤ r → r ≤ t → get_or held r false ≡ true → 1 ≤ get_or parents r 0 → get_or held (get_or parents r 0) false ≡ true
+  pub earlier : Earlier t w.parents
+  pub long : length w.held ≡ numbers
+  pub closed : (r : ℕ) → 1 ≤ r → r ≤ t → get_or w.held r false ≡ true → 1 ≤ get_or w.parents r 0
+      → get_or w.held (get_or w.parents r 0) false ≡ true
 
 -- record r is on the way up from t and is held; or it is held as before, and if it is on that way, then P
 abbrev pub JoinedAt : List ℕ → ℕ → List Bool → List Bool → ℕ → Type 0 → Type 0
@@ -47,24 +49,21 @@ JoinedAt parents t old new r P =
     (Up parents t r × (get_or new r false ≡ true)) ⊎ ((Up parents t r → P) × (get_or new r false ≡ get_or old r false))
 
 -- what is on the way up is held, and the others as before
-pub record Joined (parents : List ℕ) (t : ℕ) (old new : List Bool) : Type 0 where
-  pub long : length new ≡ length old
-  pub each : (r : ℕ) → 1 ≤ r → JoinedAt parents t old new r (get_or old r false ≡ true)
+pub record Joined (old : Ways) (t : ℕ) (new : Ways) : Type 0 where
+  pub parents_kept : new.parents ≡ old.parents
+  pub long : length new.held ≡ length old.held
+  pub each : (r : ℕ) → 1 ≤ r → JoinedAt old.parents t old.held new.held r (get_or old.held r false ≡ true)
 
 -- an accepted outline, and the marks of a set of taxa, one for each record
 pub record Markable (o s : List ℕ) : Type 0 where
   pub formed : WellFormed o
   pub is_set : IsSet o s
 
--- with the way up from each record
-pub record HasParents (o s parents : List ℕ) : Type 0 where
+-- with the way up from each record, and the records that the set holds
+pub record HasHeld (o s : List ℕ) (w : Ways) : Type 0 where
   pub base : Markable o s
-  pub parents_are : Parents o parents
-
--- and the records that the set holds
-pub record HasHeld (o s parents : List ℕ) (held : List Bool) : Type 0 where
-  pub base : HasParents o s parents
-  pub held_are : HeldIn o s held
+  pub parents_are : Parents o w.parents
+  pub held_are : HeldIn o s w.held
 
 -- ---- what a record would add
 -- a table has the gains of the records before r, and nothing else
@@ -141,8 +140,8 @@ pub record HandAt (o s : List ℕ) (sums : Sums) (hand : Option Pick) (t : ℕ) 
   pub hand_known : 1 ≤ taxon_of hand → Known o s sums (taxon_of hand)
 
 -- record r is the next to be looked at
-pub record LookAt (o s parents : List ℕ) (held : List Bool) (sums : Sums) (r : ℕ) : Type 0 where
-  pub ready : HasHeld o s parents held
+pub record LookAt (o s : List ℕ) (w : Ways) (sums : Sums) (r : ℕ) : Type 0 where
+  pub ready : HasHeld o s w
   pub is_record : IsRecord o r
   pub sums_are : SumsUpTo o s r sums
 
@@ -158,14 +157,14 @@ pub record LookedAt (o s : List ℕ) (b : ℕ) (sums : Sums) (hand : Option Pick
 
 -- ---- the picks
 -- a set that fits page count b
-pub record PicksFit (o parents : List ℕ) (b : ℕ) (s : List ℕ) (held : List Bool) : Type 0 where
-  pub ready : HasHeld o s parents held
+pub record PicksFit (o : List ℕ) (b : ℕ) (s : List ℕ) (w : Ways) : Type 0 where
+  pub ready : HasHeld o s w
   pub fits : Fits o b s
 
 -- the set after at most k picks
-pub record PicksDone (o : List ℕ) (b k : ℕ) (s after : List ℕ) (held : List Bool) : Type 0 where
+pub record PicksDone (o : List ℕ) (b k : ℕ) (s after : List ℕ) (w : Ways) : Type 0 where
   pub set_is : after ≡ after_picks o b k s
-  pub held_are : HeldIn o after held
+  pub ready : HasHeld o after w
 
 -- ---- the ceiling
 -- what record t counts for in it
@@ -178,8 +177,8 @@ pub record PartAt (o : List ℕ) (b : ℕ) (s : List ℕ) (sums : Sums) (r v : �
   pub sums_are : SumsUpTo o s (r + 1) sums
 
 -- a marked set, with its diversity
-pub record Bounded (o s parents : List ℕ) (held : List Bool) (d : ℕ) : Type 0 where
-  pub ready : HasHeld o s parents held
+pub record Bounded (o s : List ℕ) (w : Ways) (d : ℕ) : Type 0 where
+  pub ready : HasHeld o s w
   pub diversity_is : d ≡ diversity o 0 s
 
 -- ---- a choice

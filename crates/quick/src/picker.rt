@@ -1,5 +1,5 @@
-// Picking one taxon: the greatest added diversity, then the fewest added quarters, then the lowest record. The set is marked, and `held`
-// are the records that count for it; `room` is how many quarters are left.
+// Picking one taxon: the greatest added diversity, then the fewest added quarters, then the lowest record. The set is marked, with
+// its ways; `room` is how many quarters are left.
 ghost use Rattle.std.specs.Prelude.{◌≡◌, ◌+◌, ◌<◌};
 ghost use Rattle.outline.specs.Inner.{numbers};
 ghost use Rattle.diversity.specs.Diversity.{cost};
@@ -7,8 +7,8 @@ ghost use Rattle.quick.specs.Quick.{can_pick, in_hand, picked};
 ghost use Rattle.quick.specs.Inner.{pick_of, taxon_of, comes_first, SumsLong, KnownAt, HandAt, InHand, LookAt, LookedAt, HasHeld};
 
 use super::sums::Sums;
+use super::ways::Ways;
 use outline::fields::is_taxon;
-use outline::limits::NUMBERS;
 
 // A taxon to be picked, and the quarters that it adds.
 #[derive(Clone, Copy)]
@@ -62,38 +62,31 @@ fn in_hand(
 fn look_at(
     o: &[u8],
     marks: &[u8],
-    parents: &[usize; NUMBERS],
-    held: &[bool; NUMBERS],
+    ways: &Ways,
     room: u32,
     sums: &mut Sums,
     hand: Option<Pick>,
     r: usize,
 ) -> Option<Pick>
-    requires { LookAt o.now marks.now parents.now held.now sums.old r × InHand o.now marks.now hand r }
+    requires { LookAt o.now marks.now ways.now sums.old r × InHand o.now marks.now hand r }
     ensures { LookedAt o.now marks.now (cost o.now marks.now + room) sums.new hand r result }
 {
-    if held[r] {
+    if ways.held[r] {
         return hand;
     }
-    sums.add_up(o, parents, r);
+    sums.add_up(o, &ways.parents, r);
     in_hand(o, marks, room, sums, hand, r)
 }
 
 // The next pick, if there is one.
-pub fn next_pick(
-    o: &[u8],
-    marks: &[u8],
-    parents: &[usize; NUMBERS],
-    held: &[bool; NUMBERS],
-    room: u32,
-) -> Option<Pick>
-    requires { HasHeld o.now marks.now parents.now held.now }
+pub fn next_pick(o: &[u8], marks: &[u8], ways: &Ways, room: u32) -> Option<Pick>
+    requires { HasHeld o.now marks.now ways.now }
     ensures { result ≡ pick_of o.now marks.now (picked o.now (cost o.now marks.now + room) marks.now) }
 {
     let mut sums = Sums::none();
     let mut hand = None;
     for r in 1..=o.len() / 16 {
-        hand = look_at(o, marks, parents, held, room, &mut sums, hand, r);
+        hand = look_at(o, marks, ways, room, &mut sums, hand, r);
     }
     hand
 }

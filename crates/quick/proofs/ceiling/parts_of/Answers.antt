@@ -12,7 +12,7 @@ pub loop-r-preserved : goal.loop-r-preserved
 loop-r-preserved c =
     let part = c.part_at.ensures in (
       summing_goes _ _ c.loop-r.invariant.0 c.loop-r-test.true part.part_is
-          (rw part.part_is (part_most _ c.requires.base.base.formed _ _ _)),
+          (rw part.part_is (part_most _ c.requires.base.formed _ _ _)),
       part.sums_are,
     )
 
@@ -25,5 +25,5 @@ pub returns-2 : goal.returns-2
 unfolding records
 returns-2 c =
     let part = c.part_at.ensures in
-    let most = part_most _ c.requires.base.base.formed _ _ _ in
+    let most = part_most _ c.requires.base.formed _ _ _ in
     summing_ends _ _ (summing_goes _ _ c.loop-r.invariant.0 c.loop-r-test.true part.part_is (rw part.part_is most)) (omega arith)

@@ -10,13 +10,13 @@ pub bounds-marks-pick : goal.bounds-marks-pick
 bounds-marks-pick c =
     let h = c.loop.invariant in
     let i = pick_record h c.next_pick.ensures c.in-Some.is in
-    omega (arith, i.low, i.high, h.ready.ready.base.base.is_set.whole)
+    omega (arith, i.low, i.high, h.ready.ready.base.is_set.whole)
 
 pub hold-requires : goal.hold-requires
 hold-requires c =
     let h = c.loop.invariant in
     let ready = h.ready.ready in
-    rising ready.base.base.formed.linked ready.base.parents_are (pick_record h c.next_pick.ensures c.in-Some.is) ready.base.base.formed
+    rising ready.base.formed.linked ready.parents_are (pick_record h c.next_pick.ensures c.in-Some.is) ready.base.formed
     ready.held_are
 
 pub overflow_add-spent : goal.overflow_add-spent
