@@ -1,6 +1,6 @@
 -- One pick: the tests by what the sums say, and the record in hand, record after record.
-use Rattle.std.specs.Prelude.{if◌then◌else◌, Option, None, Some}
-use Prim.Native.Nat.{ℕ, ◌+◌, ◌≤◌, ◌<◌}
+use Rattle.std.specs.Prelude.{if◌then◌else◌, None, Some}
+use Prim.Native.Nat.{ℕ, zero, suc, ◌+◌, ◌≤◌, ◌<◌}
 use mathlib.Core.Path.{◌≡◌, refl, sym, ap, ap₂, ◌∙◌}
 use mathlib.Core.Bool.{Bool, true, false, ◌||◌, ◌&&◌, not}
 use mathlib.Core.List.{List}
@@ -12,10 +12,10 @@ use Rattle.lists.proofs.Walk.{Folding, folding_starts, folding_goes, folding_end
 use Rattle.outline.specs.Outline.{size, records, is_taxon}
 use Rattle.diversity.specs.Diversity.{chosen, cost}
 use Rattle.quick.specs.Quick.{added_cost, can_pick, rather, in_hand, picked}
-use Rattle.quick.specs.Inner.{rather_by, pick_of, taxon_of, comes_first, SumsUpTo, NoSums, Known, KnownAt, HandAt, InHand, LookedAt}
+use Rattle.quick.specs.Inner.{rather_by, pick_of, SumsUpTo, NoSums, Known, KnownAt, HandAt, LookedAt, InHand}
 use Rattle.quick.specs.declared.picker.Pick.{Pick}
 use Rattle.quick.specs.declared.sums.Sums.{Sums}
-use Rattle.quick.proofs.Adding.{sums_start}
+use Rattle.quick.proofs.Adding.{sums_start, known_before}
 use Rattle.quick.proofs.Taxon.{cost_with}
 
 -- what is at most the room left is, with what is spent, at most both
@@ -58,65 +58,67 @@ pick_none o s t e = go (eqb t 0) _ refl e
     go true p z h = eqb-true t 0 z
     go false p z h = absurd cc
 
-first_is : {o s : List ℕ} {sums : Sums} {t : ℕ} (hand : Option Pick) → HandAt o s sums hand t
-    → comes_first sums t hand ≡ (eqb (taxon_of hand) 0 || rather o s t (taxon_of hand))
-first_is None h = refl
-first_is {o} {s} {sums} {t} (Some u) h =
-    let (same, low, quarters) = pick_some o s u.taxon h.hand_is in
-    rw (ne_eqb u.taxon 0 (λ z. omega arith)) (rather_is o s sums t u.taxon h.at.known (h.hand_known low))
-
-module _ {o s : List ℕ} {sums : Sums} {hand : Option Pick} {t : ℕ} (h : HandAt o s sums hand t) (b : ℕ) {p f : Bool} (e : p ≡ can_pick o b s t)
-    (d : f ≡ comes_first sums t hand) where
+module _ {o s : List ℕ} {sums : Sums} {hand t : ℕ} (h : HandAt o s sums hand t) where
   -- the test by which a record is taken in hand
-  test_is : (p && f) ≡ (can_pick o b s t && (eqb (taxon_of hand) 0 || rather o s t (taxon_of hand)))
-  test_is = ap₂ (λ p r. p && r) e (d ∙ first_is hand h)
+  test_is : (b : ℕ) {p r : Bool} → p ≡ can_pick o b s t
+      → r ≡ rather_by (get_or sums.added t 0) (get_or sums.added hand 0) (get_or sums.costs t 0) (get_or sums.costs hand 0) t hand
+      → (p && (eqb hand 0 || r)) ≡ (can_pick o b s t && (eqb hand 0 || rather o s t hand))
+  test_is b {p} {r} e d = by hand refl d
+    where
+      by : (n : ℕ) → n ≡ hand
+          → r ≡ rather_by (get_or sums.added t 0) (get_or sums.added n 0) (get_or sums.costs t 0) (get_or sums.costs n 0) t n
+          → (p && (eqb n 0 || r)) ≡ (can_pick o b s t && (eqb n 0 || rather o s t n))
+      by zero i d = ap (λ p. p && true) e
+      by (suc n) i d =
+          ap₂ (λ p r. p && (eqb (suc n) 0 || r)) e (d ∙ rather_is o s sums t (suc n) h.at.known (rw i (h.hand_known (omega arith))))
 
-  pub hand_taken : {q : ℕ} → q ≡ get_or sums.costs t 0 → (p && f) ≡ true
-      → Some (record { taxon = t; quarters = q }) ≡ pick_of o s (in_hand o b s (taxon_of hand) t)
-  unfolding in_hand
-  hand_taken c z =
-      let here : eqb t 0 ≡ false = ne_eqb t 0 (λ z. omega (arith, h.at.is_record.low)) in
-      rw (sym test_is ∙ z, here, c, h.at.known.1) refl
+  module _ (b : ℕ) {p r : Bool} (e : p ≡ can_pick o b s t)
+      (d : r ≡ rather_by (get_or sums.added t 0) (get_or sums.added hand 0) (get_or sums.costs t 0) (get_or sums.costs hand 0) t hand) where
+    pub hand_taken : (p && (eqb hand 0 || r)) ≡ true → t ≡ in_hand o b s hand t
+    unfolding in_hand
+    hand_taken z = rw (sym (test_is b e d) ∙ z) refl
 
-  pub hand_kept : (p && f) ≡ false → hand ≡ pick_of o s (in_hand o b s (taxon_of hand) t)
-  unfolding in_hand
-  hand_kept z = h.hand_is ∙ ap (pick_of o s) (rw (sym test_is ∙ z) refl)
+    pub hand_kept : (p && (eqb hand 0 || r)) ≡ false → hand ≡ in_hand o b s hand t
+    unfolding in_hand
+    hand_kept z = rw (sym (test_is b e d) ∙ z) refl
 
--- a loop's invariant: what is left to look at decides from what is in hand
-pub record Choosing (o : List ℕ) (b : ℕ) (s : List ℕ) (sums : Sums) (hand : Option Pick) (r : ℕ) : Type 0 where
-  pub folded : Folding (in_hand o b s) 0 (size o) (taxon_of hand) r
-  pub in_hand : InHand o s hand r
+-- a loop's invariant: what is left to look at decides from the record in hand
+pub record Choosing (o : List ℕ) (b : ℕ) (s : List ℕ) (sums : Sums) (hand r : ℕ) : Type 0 where
+  pub folded : Folding (in_hand o b s) 0 (size o) hand r
+  pub hand_before : hand < r
   pub sums_are : SumsUpTo o s r sums
 
-taxon_is : (o s : List ℕ) (t : ℕ) → taxon_of (pick_of o s t) ≡ t
-taxon_is o s t = go (eqb t 0) refl
-  where
-    go : (b : Bool) → eqb t 0 ≡ b → taxon_of (if b then None else Some (record { taxon = t; quarters = added_cost o s t })) ≡ t
-    go true z = sym (eqb-true t 0 z)
-    go false z = refl
-
 module _ {o : List ℕ} {b : ℕ} {s : List ℕ} where
-  pub choosing_starts : {sums : Sums} → NoSums sums → Choosing o b s sums None 1
-  choosing_starts n = record { folded = folding_starts _ _ _; in_hand = record { hand_is = refl; hand_before = omega arith }; sums_are = sums_start n }
+  pub choosing_starts : {sums : Sums} → NoSums sums → Choosing o b s sums 0 1
+  choosing_starts n = record { folded = folding_starts _ _ _; hand_before = omega arith; sums_are = sums_start n }
 
-  pub choosing_goes : {sums new : Sums} {hand v : Option Pick} {r : ℕ} → Choosing o b s sums hand r → r ≤ size o → LookedAt o s b new hand r v
+  pub choosing_goes : {sums new : Sums} {hand r v : ℕ} → Choosing o b s sums hand r → r ≤ size o → LookedAt o s b new hand r v
       → Choosing o b s new v (r + 1)
-  choosing_goes {hand = hand} {v = v} {r = r} h u x = record {
-    folded = folding_goes _ _ _ h.folded u taxon;
-    in_hand = record { hand_is = rw taxon x.hand_is; hand_before = rw taxon early };
+  choosing_goes {hand = hand} {r = r} h u x = record {
+    folded = folding_goes _ _ _ h.folded u x.hand_is;
+    hand_before = rw x.hand_is early;
     sums_are = x.sums_are;
   }
     where
-      taxon : taxon_of v ≡ in_hand o b s (taxon_of hand) r
-      taxon = ap taxon_of x.hand_is ∙ taxon_is o s _
-
-      either : (c : Bool) → (if c then r else taxon_of hand) < r + 1
+      either : (c : Bool) → (if c then r else hand) < r + 1
       either true = omega arith
-      either false = omega (arith, h.in_hand.hand_before)
+      either false = omega (arith, h.hand_before)
 
-      early : in_hand o b s (taxon_of hand) r < r + 1
-      early = unfold in_hand in either (can_pick o b s r && (eqb (taxon_of hand) 0 || rather o s r (taxon_of hand)))
+      early : in_hand o b s hand r < r + 1
+      early = unfold in_hand in either (can_pick o b s r && (eqb hand 0 || rather o s r hand))
 
-  pub choosing_ends : {sums : Sums} {hand : Option Pick} {r : ℕ} → Choosing o b s sums hand r → size o < r → hand ≡ pick_of o s (picked o b s)
+  pub choosing_ends : {sums : Sums} {hand r : ℕ} → Choosing o b s sums hand r → r ≡ size o + 1 → InHand o b s sums hand
   unfolding picked records
-  choosing_ends h u = h.in_hand.hand_is ∙ ap (pick_of o s) (folding_ends _ _ _ h.folded u)
+  choosing_ends {sums} {hand} h e = record {
+    hand_is = folding_ends _ _ _ h.folded (omega (arith, e));
+    hand_most = omega (arith, h.hand_before, e);
+    quarters_are = λ l. (known_before h.sums_are hand l h.hand_before).1;
+  }
+
+  -- what is in hand is the pick
+  module _ {sums : Sums} {hand : ℕ} (h : InHand o b s sums hand) where
+    pub hand_none : hand ≡ 0 → None ≡ pick_of o s (picked o b s)
+    hand_none z = rw (← h.hand_is, z)
+
+    pub hand_some : (hand ≡ 0 → ⊥) → Some (record { taxon = hand; quarters = get_or sums.costs hand 0 }) ≡ pick_of o s (picked o b s)
+    hand_some d = rw (← h.hand_is, ne_eqb hand 0 d, h.quarters_are (omega (arith, d)))

@@ -8,7 +8,7 @@ use Rattle.diversity.specs.Diversity.{chosen, within, diversity, cost}
 use Rattle.diversity.specs.Behind.{IsSet, Fits}
 use Rattle.diversity.specs.Paths.{Parent}
 use Rattle.laws.specs.Locks.{locked_set}
-use Rattle.quick.specs.Quick.{added, added_cost, in_hand, after_picks, quick}
+use Rattle.quick.specs.Quick.{added, added_cost, in_hand, picked, after_picks, quick}
 use Rattle.quick.specs.Answer.{Figures, figures_of}
 use Rattle.quick.specs.declared.picker.Pick.{Pick}
 use Rattle.quick.specs.declared.sums.Sums.{Sums}
@@ -117,27 +117,11 @@ pub record KnownAt (o s : List ℕ) (sums : Sums) (t : ℕ) : Type 0 where
   pub lengths : SumsLong sums
   pub known : Known o s sums t
 
--- the pick of taxon t, with the quarters that it adds; none for 0
-abbrev pub pick_of : List ℕ → List ℕ → ℕ → Option Pick
-pick_of o s t = if eqb t 0 then None else Some (record { taxon = t; quarters = added_cost o s t })
-
--- the taxon of a pick, 0 for none
-abbrev pub taxon_of : Option Pick → ℕ
-taxon_of None = 0
-taxon_of (Some p) = p.taxon
-
--- record t comes first: nothing is in hand, or it is picked rather than what is
-abbrev pub comes_first : Sums → ℕ → Option Pick → Bool
-comes_first sums t None = true
-comes_first sums t (Some u) =
-    rather_by (get_or sums.added t 0) (get_or sums.added u.taxon 0) (get_or sums.costs t 0) (get_or sums.costs u.taxon 0) t u.taxon
-
 -- and what the record in hand would, if one is
-pub record HandAt (o s : List ℕ) (sums : Sums) (hand : Option Pick) (t : ℕ) : Type 0 where
+pub record HandAt (o s : List ℕ) (sums : Sums) (hand t : ℕ) : Type 0 where
   pub at : KnownAt o s sums t
-  pub hand_is : hand ≡ pick_of o s (taxon_of hand)
-  pub hand_most : taxon_of hand ≤ size o
-  pub hand_known : 1 ≤ taxon_of hand → Known o s sums (taxon_of hand)
+  pub hand_most : hand ≤ size o
+  pub hand_known : 1 ≤ hand → Known o s sums hand
 
 -- record r is the next to be looked at
 pub record LookAt (o s : List ℕ) (w : Ways) (sums : Sums) (r : ℕ) : Type 0 where
@@ -145,15 +129,20 @@ pub record LookAt (o s : List ℕ) (w : Ways) (sums : Sums) (r : ℕ) : Type 0 w
   pub is_record : IsRecord o r
   pub sums_are : SumsUpTo o s r sums
 
--- and what is in hand is a pick of a record before it
-pub record InHand (o s : List ℕ) (hand : Option Pick) (r : ℕ) : Type 0 where
-  pub hand_is : hand ≡ pick_of o s (taxon_of hand)
-  pub hand_before : taxon_of hand < r
-
 -- it was, and v is in hand
-pub record LookedAt (o s : List ℕ) (b : ℕ) (sums : Sums) (hand : Option Pick) (r : ℕ) (v : Option Pick) : Type 0 where
-  pub hand_is : v ≡ pick_of o s (in_hand o b s (taxon_of hand) r)
+pub record LookedAt (o s : List ℕ) (b : ℕ) (sums : Sums) (hand r v : ℕ) : Type 0 where
+  pub hand_is : v ≡ in_hand o b s hand r
   pub sums_are : SumsUpTo o s (r + 1) sums
+
+-- all were, and the next pick is in hand, with the quarters that it adds
+pub record InHand (o : List ℕ) (b : ℕ) (s : List ℕ) (sums : Sums) (hand : ℕ) : Type 0 where
+  pub hand_is : hand ≡ picked o b s
+  pub hand_most : hand ≤ size o
+  pub quarters_are : 1 ≤ hand → get_or sums.costs hand 0 ≡ added_cost o s hand
+
+-- the pick of taxon t, with the quarters that it adds; none for 0
+abbrev pub pick_of : List ℕ → List ℕ → ℕ → Option Pick
+pick_of o s t = if eqb t 0 then None else Some (record { taxon = t; quarters = added_cost o s t })
 
 -- ---- the picks
 -- a set that fits page count b

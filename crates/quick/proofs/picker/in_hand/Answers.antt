@@ -1,10 +1,9 @@
 -- `quick::picker::in_hand` meets its contract.
-use Rattle.std.proofs.Common.{refl}
 use Rattle.quick.proofs.Hand.{hand_taken, hand_kept}
 use Rattle.quick.proofs.picker.in_hand.Goals as goal
 
-pub returns-then-can_pick-comes_first : goal.returns-then-can_pick-comes_first
-returns-then-can_pick-comes_first c = hand_taken c.requires _ c.can_pick.ensures c.comes_first.ensures refl c.if-can_pick-comes_first.true
+pub returns-then-can_pick-hand : goal.returns-then-can_pick-hand
+returns-then-can_pick-hand c = hand_taken c.requires _ c.can_pick.ensures c.rather.ensures c.if-can_pick-hand.true
 
 pub returns : goal.returns
-returns c = hand_kept c.requires _ c.can_pick.ensures c.comes_first.ensures c.if-can_pick-comes_first.false
+returns c = hand_kept c.requires _ c.can_pick.ensures c.rather.ensures c.if-can_pick-hand.false
