@@ -9,7 +9,8 @@ use super::sums::Sums;
 use super::ways::Ways;
 use outline::fields::{is_taxon, price_of};
 
-// What record r counts for. One that is held adds nothing.
+// What record r counts for. One that is held adds nothing. It shares the first four lines with `look_at`, and one walk for both would take
+// a closure that changes what is in hand or the sum: its contract would need that as an invariant, and be longer than both walks.
 fn part_at(o: &[u8], marks: &[u8], ways: &Ways, count: u32, sums: &mut Sums, r: usize) -> u32
     requires { LookAt o.now marks.now ways.now sums.old r }
     ensures { PartAt o.now count marks.now sums.new r result }

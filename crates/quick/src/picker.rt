@@ -1,5 +1,6 @@
 // Picking one taxon: the greatest added diversity, then the fewest added quarters, then the lowest record. The set is marked, with
-// its ways; `room` is how many quarters are left.
+// its ways; `room` is how many quarters are left. These stay parameters: a struct that holds the outline and the marks by reference has
+// a value at the call and one at the return, and each clause would say `set.entry.marks.now` for `marks.now`.
 ghost use Rattle.std.specs.Prelude.{◌≡◌, ◌+◌, ◌<◌};
 ghost use Rattle.diversity.specs.Diversity.{cost};
 ghost use Rattle.quick.specs.Quick.{can_pick, in_hand, picked};
@@ -25,7 +26,8 @@ fn can_pick(o: &[u8], marks: &[u8], room: u32, sums: &Sums, t: usize) -> bool
     is_taxon(o, t) & (open & ((sums.costs[t] <= room) & (0 < sums.added[t])))
 }
 
-// The record in hand, after record t was looked at; 0 for none. An `Option` in hand takes 1.2 times as long at 64 picks.
+// The record in hand, after record t was looked at; 0 for none, as in the definition: with an `Option<usize>` each clause would say
+// `nonzero (in_hand .. (unwrap_or hand 0) t)` for `in_hand .. hand t`. With an `Option<Pick>` 64 picks took 1.2 times as long.
 fn in_hand(o: &[u8], marks: &[u8], room: u32, sums: &Sums, hand: usize, t: usize) -> usize
     requires { HandAt o.now marks.now sums.now hand t }
     ensures { result ≡ in_hand o.now (cost o.now marks.now + room) marks.now hand t }

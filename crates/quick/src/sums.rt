@@ -6,7 +6,8 @@ ghost use Rattle.quick.specs.Inner.{rather_by, SumsLong, NoSums, CanAdd, AddedUp
 use outline::fields::{branch_of, price_of};
 use outline::limits::NUMBERS;
 
-// In diversity, and in quarters; 0 where the set holds the record, and where it was not yet looked at.
+// In diversity, and in quarters; 0 where the set holds the record, and where it was not yet looked at. They are two tables: each has laws
+// of its own, and of a table of structs a clause would say `(get_or table q no_sum).added` for `get_or added q 0`.
 #[derive(Drop)]
 pub struct Sums {
     pub added: [u32; NUMBERS],

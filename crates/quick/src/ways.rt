@@ -41,6 +41,7 @@ impl Ways {
             held: [false; NUMBERS],
         };
         for r in 1..=o.len() / 16 {
+            // the marks are bytes, as the C interface lends them
             if marks[r - 1] == 1 {
                 ways.hold(r);
             }
@@ -53,6 +54,7 @@ impl Ways {
         requires { Rising self.old t }
         ensures { Joined self.old t self.new }
     {
+        // up from parent to parent, which no range or iterator does
         let mut at = t;
         while at != 0 {
             if self.held[at] {

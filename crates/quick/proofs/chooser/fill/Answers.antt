@@ -11,9 +11,6 @@ make_picks-requires c =
     let marked = c.mark_locked.ensures ∙ locked_marks c.requires in
     rw marked (locked_ready c.requires (rw marked at c.of-ways.ensures))
 
-pub ceiling_of-requires : goal.ceiling_of-requires
-ceiling_of-requires c = record { ready = c.make_picks.ensures.ready; diversity_is = c.measure-set.ensures.diversity_is }
-
 pub returns : goal.returns
 returns c =
     let chosen = picks_quick (c.mark_locked.ensures ∙ locked_marks c.requires) c.make_picks.ensures in

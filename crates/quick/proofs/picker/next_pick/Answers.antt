@@ -2,9 +2,6 @@
 use Rattle.quick.proofs.Hand.{hand_none, hand_some}
 use Rattle.quick.proofs.picker.next_pick.Goals as goal
 
-pub look_at_all-taxon-requires : goal.look_at_all-taxon-requires
-look_at_all-taxon-requires c = (c.requires, c.none-sums.ensures)
-
 pub returns-then-taxon-eq0 : goal.returns-then-taxon-eq0
 returns-then-taxon-eq0 c = hand_none c.look_at_all-taxon.ensures c.if-taxon-eq0.true
 
