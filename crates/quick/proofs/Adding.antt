@@ -8,16 +8,16 @@ use lib.Dec.{eqb, leb}
 use lib.ListN.{get_or, set, replicate, length-set, length-replicate}
 use lib.Seq.{get_or-set_same, get_or-set_other}
 use borrow.Author.Tests.{eqb-true, eqb-false}
-use Rattle.lists.specs.Lists.{one}
 use Rattle.outline.specs.Inner.{numbers}
 use Rattle.outline.specs.Outline.{branch, price, is_taxon}
 use Rattle.outline.specs.WellFormed.{WellFormed}
 use Rattle.diversity.specs.Diversity.{chosen, within}
-use Rattle.laws.proofs.Sums.{one_true, if_zero}
+use Rattle.laws.proofs.Sums.{if_zero}
 use Rattle.measures.proofs.Locking.{zeros_at}
 use Rattle.quick.specs.Quick.{with_taxon, added, added_cost, can_pick, in_hand}
 use Rattle.quick.specs.Inner.{GainsUpTo, SumsUpTo, NoSums, SumsLong, CanAdd, AddedUp, Known, LookAt, ceiling_part}
 use Rattle.quick.specs.declared.sums.Sums.{Sums}
+use Rattle.quick.specs.declared.ways.Ways.{Ways}
 use Rattle.quick.proofs.Along.{gain_held, gain_up}
 use Rattle.quick.proofs.Bounds.{added_bound, cost_bound}
 use Rattle.quick.proofs.Taxon.{added_sum, added_cost_sum, cost_with}
@@ -70,63 +70,59 @@ module _ {o s : List ℕ} {r : ℕ} {sums : Sums} (u : SumsUpTo o s r sums) wher
   known_before q l h = (u.added_are.before q l h, u.costs_are.before q l h)
 
 -- ---- the record that is looked at
-module _ {o s parents held : List ℕ} {sums : Sums} {hand r : ℕ} (l : LookAt o s parents held sums hand r) where
+module _ {o s : List ℕ} {w : Ways} {sums : Sums} {r : ℕ} (l : LookAt o s w sums r) where
   abbrev formed : WellFormed o
-  formed = l.ready.base.base.formed
+  formed = l.ready.base.formed
 
   -- it is held
-  module _ (e : get_or held r 0 ≡ 1) where
+  module _ (e : get_or w.held r false ≡ true) where
     counts : within o s r ≡ true
-    counts = one_true (within o s r) (omega (arith, e, l.ready.held_are.at_record r l.is_record))
+    counts = sym (l.ready.held_are.at_record r l.is_record) ∙ e
 
     pub adds_nothing : added o s r ≡ 0
-    adds_nothing = gain_held o formed.linked s l.ready.base.base.is_set (branch o) (added_sum o s) l.is_record counts
+    adds_nothing = gain_held o formed.linked s l.ready.base.is_set (branch o) (added_sum o s) l.is_record counts
 
     costs_nothing : added_cost o s r ≡ 0
-    costs_nothing = gain_held o formed.linked s l.ready.base.base.is_set (price o) (added_cost_sum o s) l.is_record counts
+    costs_nothing = gain_held o formed.linked s l.ready.base.is_set (price o) (added_cost_sum o s) l.is_record counts
 
     pub sums_pass : SumsUpTo o s (r + 1) sums
     sums_pass = record { added_are = gains_pass l.sums_are.added_are adds_nothing; costs_are = gains_pass l.sums_are.costs_are costs_nothing }
 
     -- so it is not picked
-    pub held_kept : (b : ℕ) → hand ≡ in_hand o b s hand r
+    pub held_kept : (b hand : ℕ) → hand ≡ in_hand o b s hand r
     unfolding in_hand can_pick
-    held_kept b = rw (adds_nothing, and-false, and-false, and-false) refl
+    held_kept b hand = rw (adds_nothing, and-false, and-false, and-false) refl
 
     -- and counts for nothing
     pub held_part : (b : ℕ) → 0 ≡ ceiling_part o b s r
     held_part b = rw adds_nothing (sym (if_zero (is_taxon o r && (not (chosen s r) && leb (price o r) b))))
 
   -- it is not
-  module _ (n : get_or held r 0 ≡ 1 → ⊥) where
+  module _ (n : get_or w.held r false ≡ false) where
     fresh : within o s r ≡ false
-    fresh = go (within o s r) refl
-      where
-        go : (b : Bool) → within o s r ≡ b → b ≡ false
-        go true e = absurd (n (l.ready.held_are.at_record r l.is_record ∙ ap one e))
-        go false e = refl
+    fresh = sym (l.ready.held_are.at_record r l.is_record) ∙ n
 
-    added_up : get_or sums.added (get_or parents r 0) 0 + branch o r ≡ added o s r
+    added_up : get_or sums.added (get_or w.parents r 0) 0 + branch o r ≡ added o s r
     added_up =
-        gain_up o formed.linked s l.ready.base.base.is_set (branch o) (added_sum o s) l.sums_are.added_are l.is_record
-        (l.ready.base.parents_are.at_record r l.is_record) fresh
+        gain_up o formed.linked s l.ready.base.is_set (branch o) (added_sum o s) l.sums_are.added_are l.is_record
+        (l.ready.parents_are.at_record r l.is_record) fresh
 
-    cost_up : get_or sums.costs (get_or parents r 0) 0 + price o r ≡ added_cost o s r
+    cost_up : get_or sums.costs (get_or w.parents r 0) 0 + price o r ≡ added_cost o s r
     cost_up =
-        gain_up o formed.linked s l.ready.base.base.is_set (price o) (added_cost_sum o s) l.sums_are.costs_are l.is_record
-        (l.ready.base.parents_are.at_record r l.is_record) fresh
+        gain_up o formed.linked s l.ready.base.is_set (price o) (added_cost_sum o s) l.sums_are.costs_are l.is_record
+        (l.ready.parents_are.at_record r l.is_record) fresh
 
-    pub can_add : CanAdd o parents sums r
+    pub can_add : CanAdd o w.parents sums r
     can_add = record {
       few = formed.size_most;
       is_record = l.is_record;
-      parent_before = parents_earlier formed.linked l.ready.base.parents_are r l.is_record.low l.is_record.high;
+      parent_before = parents_earlier formed.linked l.ready.parents_are r l.is_record.low l.is_record.high;
       lengths = sums_long l.sums_are;
       added_fits = omega (arith, added_up, added_bound o formed s r, formed.size_most);
       costs_fit = omega (arith, cost_up, cost_with o s r, cost_bound o formed (with_taxon s r), formed.size_most);
     }
 
-    pub sums_add : {new : Sums} → AddedUp o parents r sums new → SumsUpTo o s (r + 1) new
+    pub sums_add : {new : Sums} → AddedUp o w.parents r sums new → SumsUpTo o s (r + 1) new
     sums_add a =
         let inside : r < numbers = omega (arith, l.is_record.high, formed.size_most) in
         record {

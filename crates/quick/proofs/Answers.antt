@@ -26,7 +26,8 @@ use Rattle.measures.specs.declared.figures.Measure.{Measure}
 use Rattle.quick.specs.Quick.{after_picks, quick, ceiling}
 use Rattle.choice.specs.Answer.{most_count}
 use Rattle.quick.specs.Answer.{Call, most_picks, Figures, reported, Answered, told, judged, quick_set, figures_of, reply, marks_after}
-use Rattle.quick.specs.Inner.{Parents, HasParents, HeldIn, HasHeld, PicksFit, PicksDone, Fillable, Filled}
+use Rattle.quick.specs.Inner.{Markable, HasHeld, PicksFit, PicksDone, Fillable, Filled}
+use Rattle.quick.specs.declared.ways.Ways.{Ways}
 use Rattle.quick.proofs.Picking.{Good, locked_good, quick_picking}
 
 -- ---- marking and measuring
@@ -38,21 +39,14 @@ module _ {o : List ℕ} {b : ℕ} {marks : List ℕ} (h : Fillable o b marks) wh
       let all : length marks ≤ length (locked_set o) = omega (arith, h.long, (locked_is_set o).whole) in
       rw (drop_of_length-le marks all) (append-nil (locked_set o))
 
-  good : (k : ℕ) → Good o b (quick o b k)
-  good k = (quick_picking o b h.locked_fit k).good
+  pub locked_markable : Markable o (locked_set o)
+  locked_markable = record { formed = h.formed; is_set = locked_is_set o }
 
-  module _ {parents : List ℕ} (ps : Parents o parents) where
-    pub locked_has_parents : HasParents o (locked_set o) parents
-    locked_has_parents = record { base = record { formed = h.formed; is_set = locked_is_set o }; parents_are = ps }
-
-    pub locked_ready : {held : List ℕ} → HeldIn o (locked_set o) held → PicksFit o parents b (locked_set o) held
-    locked_ready x = record { ready = record { base = locked_has_parents; held_are = x }; fits = (locked_good o b h.locked_fit).1 }
-
-    pub quick_has_held : (k : ℕ) {held : List ℕ} → HeldIn o (quick o b k) held → HasHeld o (quick o b k) parents held
-    quick_has_held k x = record { base = record { base = record { formed = h.formed; is_set = (good k).0 }; parents_are = ps }; held_are = x }
+  pub locked_ready : {w : Ways} → HasHeld o (locked_set o) w → PicksFit o b (locked_set o) w
+  locked_ready x = record { ready = x; fits = (locked_good o b h.locked_fit).1 }
 
 -- after the picks the choice is marked
-pub picks_quick : {o : List ℕ} {b k : ℕ} {marked s held : List ℕ} → marked ≡ locked_set o → PicksDone o b k marked s held → s ≡ quick o b k
+pub picks_quick : {o : List ℕ} {b k : ℕ} {marked s : List ℕ} {w : Ways} → marked ≡ locked_set o → PicksDone o b k marked s w → s ≡ quick o b k
 unfolding quick
 picks_quick {o} {b} {k} e d = d.set_is ∙ ap (after_picks o b k) e
 

@@ -26,7 +26,7 @@ use Rattle.choice.specs.Answer as choose
 use Rattle.choice.specs.declared.answer.Figures.{Figures as ChoiceFigures}
 use Rattle.choice.proofs.Demands.{none_decided, demand_3}
 use Rattle.quick.specs.Quick.{quick}
-use Rattle.quick.specs.Answer.{Call, Figures, no_figures, Answered, reported, numbers_of, told, most_picks, judged, quick_set, figures_of, reply, marks_after}
+use Rattle.quick.specs.Answer.{Call, Figures, no_figures, Answered, numbers_of, told, most_picks, judged, quick_set, figures_of, reply, marks_after}
 use Rattle.quick.specs.Demands.{quick_table, ChosenOrRefused, marked_set, TrueChoice, PicksMade, SameChoice, BestBetween, MorePicks}
 use Rattle.quick.proofs.Answers.{outline_formed, locked_fit, quick_good}
 use Rattle.quick.proofs.Picking.{Picking, quick_picking, quick_rises}

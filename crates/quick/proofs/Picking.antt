@@ -117,6 +117,14 @@ module _ (o : List ℕ) (b : ℕ) (s : List ℕ) where
       subst (λ n. IsPick o b s n (foldl (in_hand o b s) 0 (from 1 (size o)))) (omega arith)
       (hand_fold 0 (size o) 0 (no_pick refl (λ u l h. absurd (omega arith))))
 
+  -- it is no later record
+  pub picked_most : picked o b s ≤ size o
+  picked_most = go picked_rightly
+    where
+      go : {t : ℕ} → IsPick o b s (size o) t → t ≤ size o
+      go (no_pick z f) = omega arith
+      go (a_pick l h c best) = h
+
 -- ---- the set
 -- a set of taxa that fits
 abbrev pub Good : List ℕ → ℕ → List ℕ → Type 0

@@ -1,6 +1,5 @@
 -- What the functions behind `quick` speak of: the way up from each record, the records that a set holds, what the others would add, and picks.
-use Rattle.std.specs.Prelude.{if◌then◌else◌, ℕ, ◌+◌, ◌≤◌, ◌<◌, ◌^◌, ◌≡◌, ◌⊎◌, Bool, ◌||◌, ◌&&◌, not, List, length, get_or, set, replicate, eqb, ltb, leb}
-use Rattle.lists.specs.Lists.{one}
+use Rattle.std.specs.Prelude.{if◌then◌else◌, ℕ, ◌+◌, ◌≤◌, ◌<◌, ◌^◌, ◌≡◌, ◌⊎◌, Bool, true, false, Option, None, Some, ◌||◌, ◌&&◌, not, List, length, get_or, set, replicate, eqb, ltb, leb}
 use Rattle.outline.specs.Inner.{numbers}
 use Rattle.outline.specs.Outline.{size, branch, price, is_taxon, IsRecord}
 use Rattle.outline.specs.WellFormed.{WellFormed}
@@ -13,6 +12,7 @@ use Rattle.quick.specs.Quick.{added, added_cost, in_hand, picked, after_picks, q
 use Rattle.quick.specs.Answer.{Figures, figures_of}
 use Rattle.quick.specs.declared.picker.Pick.{Pick}
 use Rattle.quick.specs.declared.sums.Sums.{Sums}
+use Rattle.quick.specs.declared.ways.Ways.{Ways}
 
 -- ---- the way up
 -- a table has the parent of each record
@@ -30,41 +30,40 @@ pub data Up (parents : List ℕ) (t : ℕ) : ℕ → Type 0 where
   onward : {q : ℕ} → Up parents t q → 1 ≤ q → Up parents t (get_or parents q 0)
 
 -- ---- what a set holds
--- a table has 1 for the records that have a taxon of the set at or below them, and 0 for the others
-pub record HeldIn (o s held : List ℕ) : Type 0 where
+-- a table tells of each record whether the set has a taxon at or below it
+pub record HeldIn (o s : List ℕ) (held : List Bool) : Type 0 where
   pub long : length held ≡ numbers
-  pub at_record : (r : ℕ) → IsRecord o r → get_or held r 0 ≡ one (within o s r)
+  pub at_record : (r : ℕ) → IsRecord o r → get_or held r false ≡ within o s r
 
 -- a way up that can be gone: above a record that is held each is held
-pub record Rising (parents : List ℕ) (t : ℕ) (held : List ℕ) : Type 0 where
+pub record Rising (w : Ways) (t : ℕ) : Type 0 where
   pub small : t < numbers
-  pub earlier : Earlier t parents
-  pub long : length held ≡ numbers
-  pub closed : (r : ℕ) → 1 ≤ r → r ≤ t → get_or held r 0 ≡ 1 → 1 ≤ get_or parents r 0 → get_or held (get_or parents r 0) 0 ≡ 1
+  pub earlier : Earlier t w.parents
+  pub long : length w.held ≡ numbers
+  pub closed : (r : ℕ) → 1 ≤ r → r ≤ t → get_or w.held r false ≡ true → 1 ≤ get_or w.parents r 0
+      → get_or w.held (get_or w.parents r 0) false ≡ true
 
--- record r is on the way up from t and has 1; or it has what it had, and if it is on that way, then P
-abbrev pub JoinedAt : List ℕ → ℕ → List ℕ → List ℕ → ℕ → Type 0 → Type 0
-JoinedAt parents t old new r P = (Up parents t r × (get_or new r 0 ≡ 1)) ⊎ ((Up parents t r → P) × (get_or new r 0 ≡ get_or old r 0))
+-- record r is on the way up from t and is held; or it is held as before, and if it is on that way, then P
+abbrev pub JoinedAt : List ℕ → ℕ → List Bool → List Bool → ℕ → Type 0 → Type 0
+JoinedAt parents t old new r P =
+    (Up parents t r × (get_or new r false ≡ true)) ⊎ ((Up parents t r → P) × (get_or new r false ≡ get_or old r false))
 
--- 1 stands on the way up, and elsewhere what stood there
-pub record Joined (parents : List ℕ) (t : ℕ) (old new : List ℕ) : Type 0 where
-  pub long : length new ≡ length old
-  pub each : (r : ℕ) → 1 ≤ r → JoinedAt parents t old new r (get_or old r 0 ≡ 1)
+-- what is on the way up is held, and the others as before
+pub record Joined (old : Ways) (t : ℕ) (new : Ways) : Type 0 where
+  pub parents_kept : new.parents ≡ old.parents
+  pub long : length new.held ≡ length old.held
+  pub each : (r : ℕ) → 1 ≤ r → JoinedAt old.parents t old.held new.held r (get_or old.held r false ≡ true)
 
 -- an accepted outline, and the marks of a set of taxa, one for each record
 pub record Markable (o s : List ℕ) : Type 0 where
   pub formed : WellFormed o
   pub is_set : IsSet o s
 
--- with the way up from each record
-pub record HasParents (o s parents : List ℕ) : Type 0 where
+-- with the way up from each record, and the records that the set holds
+pub record HasHeld (o s : List ℕ) (w : Ways) : Type 0 where
   pub base : Markable o s
-  pub parents_are : Parents o parents
-
--- and the records that the set holds
-pub record HasHeld (o s parents held : List ℕ) : Type 0 where
-  pub base : HasParents o s parents
-  pub held_are : HeldIn o s held
+  pub parents_are : Parents o w.parents
+  pub held_are : HeldIn o s w.held
 
 -- ---- what a record would add
 -- a table has the gains of the records before r, and nothing else
@@ -125,33 +124,36 @@ pub record HandAt (o s : List ℕ) (sums : Sums) (hand t : ℕ) : Type 0 where
   pub hand_known : 1 ≤ hand → Known o s sums hand
 
 -- record r is the next to be looked at
-pub record LookAt (o s parents held : List ℕ) (sums : Sums) (hand r : ℕ) : Type 0 where
-  pub ready : HasHeld o s parents held
+pub record LookAt (o s : List ℕ) (w : Ways) (sums : Sums) (r : ℕ) : Type 0 where
+  pub ready : HasHeld o s w
   pub is_record : IsRecord o r
   pub sums_are : SumsUpTo o s r sums
-  pub hand_before : hand < r
 
 -- it was, and v is in hand
 pub record LookedAt (o s : List ℕ) (b : ℕ) (sums : Sums) (hand r v : ℕ) : Type 0 where
   pub hand_is : v ≡ in_hand o b s hand r
   pub sums_are : SumsUpTo o s (r + 1) sums
 
--- the next pick, and the quarters that it adds
-pub record NextPick (o : List ℕ) (b : ℕ) (s : List ℕ) (p : Pick) : Type 0 where
-  pub taxon_is : p.taxon ≡ picked o b s
-  pub taxon_most : p.taxon ≤ size o
-  pub quarters_are : 1 ≤ p.taxon → p.quarters ≡ added_cost o s p.taxon
+-- all were, and the next pick is in hand, with the quarters that it adds
+pub record InHand (o : List ℕ) (b : ℕ) (s : List ℕ) (sums : Sums) (hand : ℕ) : Type 0 where
+  pub hand_is : hand ≡ picked o b s
+  pub hand_most : hand ≤ size o
+  pub quarters_are : 1 ≤ hand → get_or sums.costs hand 0 ≡ added_cost o s hand
+
+-- the pick of taxon t, with the quarters that it adds; none for 0
+abbrev pub pick_of : List ℕ → List ℕ → ℕ → Option Pick
+pick_of o s t = if eqb t 0 then None else Some (record { taxon = t; quarters = added_cost o s t })
 
 -- ---- the picks
 -- a set that fits page count b
-pub record PicksFit (o parents : List ℕ) (b : ℕ) (s held : List ℕ) : Type 0 where
-  pub ready : HasHeld o s parents held
+pub record PicksFit (o : List ℕ) (b : ℕ) (s : List ℕ) (w : Ways) : Type 0 where
+  pub ready : HasHeld o s w
   pub fits : Fits o b s
 
 -- the set after at most k picks
-pub record PicksDone (o : List ℕ) (b k : ℕ) (s after held : List ℕ) : Type 0 where
+pub record PicksDone (o : List ℕ) (b k : ℕ) (s after : List ℕ) (w : Ways) : Type 0 where
   pub set_is : after ≡ after_picks o b k s
-  pub held_are : HeldIn o after held
+  pub ready : HasHeld o after w
 
 -- ---- the ceiling
 -- what record t counts for in it
@@ -164,8 +166,8 @@ pub record PartAt (o : List ℕ) (b : ℕ) (s : List ℕ) (sums : Sums) (r v : �
   pub sums_are : SumsUpTo o s (r + 1) sums
 
 -- a marked set, with its diversity
-pub record Bounded (o s parents held : List ℕ) (d : ℕ) : Type 0 where
-  pub ready : HasHeld o s parents held
+pub record Bounded (o s : List ℕ) (w : Ways) (d : ℕ) : Type 0 where
+  pub ready : HasHeld o s w
   pub diversity_is : d ≡ diversity o 0 s
 
 -- ---- a choice

@@ -5,27 +5,20 @@ ghost use Rattle.outline.specs.Outline.{records};
 ghost use Rattle.quick.specs.Quick.{ceiling};
 ghost use Rattle.quick.specs.Inner.{ceiling_part, LookAt, PartAt, HasHeld, Bounded};
 
-use super::sums::{Sums, add_up, no_sums};
+use super::sums::Sums;
+use super::ways::Ways;
 use outline::fields::{is_taxon, price_of};
-use outline::limits::NUMBERS;
 
-// What record r counts for. One that is held adds nothing.
-fn part_at(
-    o: &[u8],
-    marks: &[u8],
-    parents: &[usize; NUMBERS],
-    held: &[u8; NUMBERS],
-    count: u32,
-    sums: &mut Sums,
-    r: usize,
-) -> u32
-    requires { LookAt o.now marks.now parents.now held.now sums.old 0 r }
+// What record r counts for. One that is held adds nothing. It shares the first four lines with `look_at`, and one walk for both would take
+// a closure that changes what is in hand or the sum: its contract would need that as an invariant, and be longer than both walks.
+fn part_at(o: &[u8], marks: &[u8], ways: &Ways, count: u32, sums: &mut Sums, r: usize) -> u32
+    requires { LookAt o.now marks.now ways.now sums.old r }
     ensures { PartAt o.now count marks.now sums.new r result }
 {
-    if held[r] == 1 {
+    if ways.held[r] {
         return 0;
     }
-    add_up(o, parents, sums, r);
+    sums.add_up(o, &ways.parents, r);
     let open = marks[r - 1] != 1;
     if is_taxon(o, r) & (open & (price_of(o, r) <= count)) {
         return sums.added[r];
@@ -34,38 +27,22 @@ fn part_at(
 }
 
 // What all records count for.
-fn parts_of(
-    o: &[u8],
-    marks: &[u8],
-    parents: &[usize; NUMBERS],
-    held: &[u8; NUMBERS],
-    count: u32,
-) -> u64
-    requires { HasHeld o.now marks.now parents.now held.now }
+fn parts_of(o: &[u8], marks: &[u8], ways: &Ways, count: u32) -> u64
+    requires { HasHeld o.now marks.now ways.now }
     ensures { result ≡ total (ceiling_part o.now count marks.now) (records o.now) }
 {
-    let n = o.len() / 16;
-    let mut sums = no_sums();
+    let mut sums = Sums::none();
     let mut sum = 0;
-    let mut r = 1;
-    while r <= n {
-        sum += part_at(o, marks, parents, held, count, &mut sums, r) as u64;
-        r += 1;
+    for r in 1..=o.len() / 16 {
+        sum += part_at(o, marks, ways, count, &mut sums, r) as u64;
     }
     sum
 }
 
 // The ceiling of a marked set whose diversity is known.
-pub fn ceiling_of(
-    o: &[u8],
-    marks: &[u8],
-    parents: &[usize; NUMBERS],
-    held: &[u8; NUMBERS],
-    count: u32,
-    diversity: u32,
-) -> u64
-    requires { Bounded o.now marks.now parents.now held.now diversity }
+pub fn ceiling_of(o: &[u8], marks: &[u8], ways: &Ways, count: u32, diversity: u32) -> u64
+    requires { Bounded o.now marks.now ways.now diversity }
     ensures { result ≡ ceiling o.now count marks.now }
 {
-    diversity as u64 + parts_of(o, marks, parents, held, count)
+    diversity as u64 + parts_of(o, marks, ways, count)
 }

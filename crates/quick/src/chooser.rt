@@ -6,7 +6,7 @@ use super::answer::Figures;
 use super::ceiling::ceiling_of;
 use super::judge::judge;
 use super::picks::make_picks;
-use super::ways::{held_of, parents_of};
+use super::ways::Ways;
 use measures::{mark_locked, measure};
 use refusals::Refusal;
 
@@ -16,15 +16,14 @@ fn fill(o: &[u8], count: u32, picks: u32, marks: &mut [u8]) -> Figures
     ensures { Filled o.now count picks result marks.new }
 {
     mark_locked(o, marks);
-    let parents = parents_of(o);
-    let mut held = held_of(o, marks, &parents);
-    make_picks(o, &parents, count, picks, marks, &mut held);
+    let mut ways = Ways::of(o, marks);
+    make_picks(o, count, picks, marks, &mut ways);
     let set = measure(o, marks, 0);
     Figures {
         diversity: set.diversity,
         cost: set.cost,
         taxa: set.taxa,
-        ceiling: ceiling_of(o, marks, &parents, &held, count, set.diversity),
+        ceiling: ceiling_of(o, marks, &ways, count, set.diversity),
     }
 }
 

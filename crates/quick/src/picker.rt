@@ -1,24 +1,20 @@
-// Picking one taxon: the greatest added diversity, then the fewest added quarters, then the lowest record. The set is marked, and `held`
-// are the records that count for it; `room` is how many quarters are left.
-ghost use Rattle.std.specs.Prelude.{◌≡◌, ◌+◌, ◌<◌, get_or};
-ghost use Rattle.outline.specs.Inner.{numbers};
+// Picking one taxon: the greatest added diversity, then the fewest added quarters, then the lowest record. The set is marked, with
+// its ways; `room` is how many quarters are left. These stay parameters: a struct that holds the outline and the marks by reference has
+// a value at the call and one at the return, and each clause would say `set.entry.marks.now` for `marks.now`.
+ghost use Rattle.std.specs.Prelude.{◌≡◌, ◌+◌, ◌<◌};
 ghost use Rattle.diversity.specs.Diversity.{cost};
-ghost use Rattle.quick.specs.Quick.{can_pick, in_hand};
-ghost use Rattle.quick.specs.Inner.{rather_by, SumsLong, KnownAt, HandAt, LookAt, LookedAt, HasHeld, NextPick};
+ghost use Rattle.quick.specs.Quick.{can_pick, in_hand, picked};
+ghost use Rattle.quick.specs.Inner.{pick_of, KnownAt, HandAt, LookAt, LookedAt, HasHeld, NoSums, InHand};
 
-use super::sums::{Sums, add_up, no_sums};
+use super::sums::Sums;
+use super::ways::Ways;
 use outline::fields::is_taxon;
-use outline::limits::NUMBERS;
 
-// Whether record t is picked rather than u.
-fn rather(sums: &Sums, t: usize, u: usize) -> bool
-    requires { SumsLong sums.now × ((t < numbers) × (u < numbers)) }
-    ensures { result ≡ rather_by
-        (get_or sums.now.added t 0) (get_or sums.now.added u 0)
-        (get_or sums.now.costs t 0) (get_or sums.now.costs u 0) t u }
-{
-    let cheaper = (sums.costs[t] < sums.costs[u]) | ((sums.costs[t] == sums.costs[u]) & (t < u));
-    (sums.added[u] < sums.added[t]) | ((sums.added[t] == sums.added[u]) & cheaper)
+// A taxon to be picked, and the quarters that it adds.
+#[derive(Clone, Copy)]
+pub struct Pick {
+    pub taxon: usize,
+    pub quarters: u32,
 }
 
 // Whether record t is a taxon that is not in the set, still fits with its headings, and adds more than 0.
@@ -30,12 +26,13 @@ fn can_pick(o: &[u8], marks: &[u8], room: u32, sums: &Sums, t: usize) -> bool
     is_taxon(o, t) & (open & ((sums.costs[t] <= room) & (0 < sums.added[t])))
 }
 
-// The record in hand, after record t was looked at; 0 for none.
+// The record in hand, after record t was looked at; 0 for none, as in the definition: with an `Option<usize>` each clause would say
+// `nonzero (in_hand .. (unwrap_or hand 0) t)` for `in_hand .. hand t`. With an `Option<Pick>` 64 picks took 1.2 times as long.
 fn in_hand(o: &[u8], marks: &[u8], room: u32, sums: &Sums, hand: usize, t: usize) -> usize
     requires { HandAt o.now marks.now sums.now hand t }
     ensures { result ≡ in_hand o.now (cost o.now marks.now + room) marks.now hand t }
 {
-    if can_pick(o, marks, room, sums, t) & ((hand == 0) | rather(sums, t, hand)) {
+    if can_pick(o, marks, room, sums, t) & ((hand == 0) | sums.rather(t, hand)) {
         return t;
     }
     hand
@@ -45,51 +42,46 @@ fn in_hand(o: &[u8], marks: &[u8], room: u32, sums: &Sums, hand: usize, t: usize
 fn look_at(
     o: &[u8],
     marks: &[u8],
-    parents: &[usize; NUMBERS],
-    held: &[u8; NUMBERS],
+    ways: &Ways,
     room: u32,
     sums: &mut Sums,
     hand: usize,
     r: usize,
 ) -> usize
-    requires { LookAt o.now marks.now parents.now held.now sums.old hand r }
+    requires { LookAt o.now marks.now ways.now sums.old r × (hand < r) }
     ensures { LookedAt o.now marks.now (cost o.now marks.now + room) sums.new hand r result }
 {
-    if held[r] == 1 {
+    if ways.held[r] {
         return hand;
     }
-    add_up(o, parents, sums, r);
+    sums.add_up(o, &ways.parents, r);
     in_hand(o, marks, room, sums, hand, r)
 }
 
-// A taxon to be picked, 0 if there is none, and the quarters that it adds.
-#[derive(Clone, Copy)]
-pub struct Pick {
-    pub taxon: usize,
-    pub quarters: u32,
+// Looks at all records: the one in hand in the end, 0 for none.
+fn look_at_all(o: &[u8], marks: &[u8], ways: &Ways, room: u32, sums: &mut Sums) -> usize
+    requires { HasHeld o.now marks.now ways.now × NoSums sums.old }
+    ensures { InHand o.now (cost o.now marks.now + room) marks.now sums.new result }
+{
+    let mut hand = 0;
+    for r in 1..=o.len() / 16 {
+        hand = look_at(o, marks, ways, room, sums, hand, r);
+    }
+    hand
 }
 
-// The next pick.
-pub fn next_pick(
-    o: &[u8],
-    marks: &[u8],
-    parents: &[usize; NUMBERS],
-    held: &[u8; NUMBERS],
-    room: u32,
-) -> Pick
-    requires { HasHeld o.now marks.now parents.now held.now }
-    ensures { NextPick o.now (cost o.now marks.now + room) marks.now result }
+// The next pick, if there is one.
+pub fn next_pick(o: &[u8], marks: &[u8], ways: &Ways, room: u32) -> Option<Pick>
+    requires { HasHeld o.now marks.now ways.now }
+    ensures { result ≡ pick_of o.now marks.now (picked o.now (cost o.now marks.now + room) marks.now) }
 {
-    let n = o.len() / 16;
-    let mut sums = no_sums();
-    let mut hand = 0;
-    let mut r = 1;
-    while r <= n {
-        hand = look_at(o, marks, parents, held, room, &mut sums, hand, r);
-        r += 1;
+    let mut sums = Sums::none();
+    let taxon = look_at_all(o, marks, ways, room, &mut sums);
+    if taxon == 0 {
+        return None;
     }
-    Pick {
-        taxon: hand,
-        quarters: sums.costs[hand],
-    }
+    Some(Pick {
+        taxon,
+        quarters: sums.costs[taxon],
+    })
 }

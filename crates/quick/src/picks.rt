@@ -3,32 +3,21 @@ ghost use Rattle.std.specs.Prelude.{◌≡◌};
 ghost use Rattle.quick.specs.Inner.{PicksFit, PicksDone};
 
 use super::picker::next_pick;
-use super::ways::hold;
+use super::ways::Ways;
 use measures::measure;
-use outline::limits::NUMBERS;
 
 // Makes at most so many picks.
-pub fn make_picks(
-    o: &[u8],
-    parents: &[usize; NUMBERS],
-    count: u32,
-    picks: u32,
-    marks: &mut [u8],
-    held: &mut [u8; NUMBERS],
-)
-    requires { PicksFit o.now parents.now count marks.old held.old }
-    ensures { PicksDone o.now count picks marks.old marks.new held.new }
+pub fn make_picks(o: &[u8], count: u32, picks: u32, marks: &mut [u8], ways: &mut Ways)
+    requires { PicksFit o.now count marks.old ways.old }
+    ensures { PicksDone o.now count picks marks.old marks.new ways.new }
 {
     let mut spent = measure(o, marks, 0).cost;
-    let mut left = picks;
-    while left != 0 {
-        let pick = next_pick(o, marks, parents, held, count - spent);
-        if pick.taxon == 0 {
+    for _ in 0..picks {
+        let Some(pick) = next_pick(o, marks, ways, count - spent) else {
             return;
-        }
+        };
         marks[pick.taxon - 1] = 1;
-        hold(parents, held, pick.taxon);
+        ways.hold(pick.taxon);
         spent += pick.quarters;
-        left -= 1;
     }
 }

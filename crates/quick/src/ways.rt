@@ -1,58 +1,67 @@
 // The way up from each record, and which records count for a set.
 ghost use Rattle.std.specs.Prelude.{◌≡◌};
 ghost use Rattle.outline.specs.WellFormed.{WellFormed};
-ghost use Rattle.quick.specs.Inner.{Parents, Rising, Joined, HasParents, HeldIn};
+ghost use Rattle.quick.specs.Inner.{Parents, Rising, Joined, Markable, HasHeld};
 
 use outline::fields::{first_of, next_of};
 use outline::limits::NUMBERS;
 
 // The parent of each record, 0 for record 1: a record is that of its first member, and hands its own on to the next of its chain.
-pub fn parents_of(o: &[u8]) -> [usize; NUMBERS]
+fn parents_of(o: &[u8]) -> [usize; NUMBERS]
     requires { WellFormed o.now }
     ensures { Parents o.now result }
 {
-    let n = o.len() / 16;
     let mut parents = [0; NUMBERS];
-    let mut r = 1;
-    while r <= n {
+    for r in 1..=o.len() / 16 {
         let first = first_of(o, r);
         let next = next_of(o, r);
         let parent = parents[r];
         parents[first] = r;
         parents[next] = parent;
-        r += 1;
     }
     parents
 }
 
-// A taxon joins the set: what is on its way up is held from now on. Above a record that is held already, all are.
-pub fn hold(parents: &[usize; NUMBERS], held: &mut [u8; NUMBERS], t: usize)
-    requires { Rising parents.now t held.old }
-    ensures { Joined parents.now t held.old held.new }
-{
-    let mut at = t;
-    while at != 0 {
-        if held[at] == 1 {
-            return;
-        }
-        held[at] = 1;
-        at = parents[at];
-    }
+// The parent of each record, and whether a marked set holds it: whether it has a taxon of the set at or below it, so that its branch
+// and its price count.
+#[derive(Drop)]
+pub struct Ways {
+    pub parents: [usize; NUMBERS],
+    pub held: [bool; NUMBERS],
 }
 
-// The records that a marked set holds: those that have a taxon of the set at or below them, so that their branches and prices count.
-pub fn held_of(o: &[u8], marks: &[u8], parents: &[usize; NUMBERS]) -> [u8; NUMBERS]
-    requires { HasParents o.now marks.now parents.now }
-    ensures { HeldIn o.now marks.now result }
-{
-    let n = o.len() / 16;
-    let mut held = [0; NUMBERS];
-    let mut r = 1;
-    while r <= n {
-        if marks[r - 1] == 1 {
-            hold(parents, &mut held, r);
+impl Ways {
+    // Those of a marked set.
+    pub fn of(o: &[u8], marks: &[u8]) -> Ways
+        requires { Markable o.now marks.now }
+        ensures { HasHeld o.now marks.now result }
+    {
+        let mut ways = Ways {
+            parents: parents_of(o),
+            held: [false; NUMBERS],
+        };
+        for r in 1..=o.len() / 16 {
+            // the marks are bytes, as the C interface lends them
+            if marks[r - 1] == 1 {
+                ways.hold(r);
+            }
         }
-        r += 1;
+        ways
     }
-    held
+
+    // A taxon joins the set: what is on its way up is held from now on. Above a record that is held already, all are.
+    pub fn hold(&mut self, t: usize)
+        requires { Rising self.old t }
+        ensures { Joined self.old t self.new }
+    {
+        // up from parent to parent, which no range or iterator does
+        let mut at = t;
+        while at != 0 {
+            if self.held[at] {
+                return;
+            }
+            self.held[at] = true;
+            at = self.parents[at];
+        }
+    }
 }

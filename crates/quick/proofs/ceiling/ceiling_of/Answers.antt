@@ -8,7 +8,7 @@ use Rattle.quick.proofs.ceiling.ceiling_of.Goals as goal
 pub overflow_add-result : goal.overflow_add-result
 overflow_add-result c =
     let o = c.args.o.now in
-    let formed = c.requires.ready.base.base.formed in
+    let formed = c.requires.ready.base.formed in
     let most : c.parts_of.result ≤ most_records * (most_records * most_length) = rw c.parts_of.ensures (parts_most o formed _ _) in
     record { fits = omega (arith, c.requires.diversity_is, diversity_bound o formed c.args.marks.now, formed.size_most) }
 

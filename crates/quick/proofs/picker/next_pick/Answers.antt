@@ -1,11 +1,9 @@
-use Rattle.quick.proofs.Hand.{choosing_starts, choosing_goes, choosing_ends}
+-- `quick::picker::next_pick` meets its contract.
+use Rattle.quick.proofs.Hand.{hand_none, hand_some}
 use Rattle.quick.proofs.picker.next_pick.Goals as goal
 
-pub loop-r-init : goal.loop-r-init
-loop-r-init c = choosing_starts c.no_sums-sums.ensures
-
-pub loop-r-preserved : goal.loop-r-preserved
-loop-r-preserved c = choosing_goes c.loop-r.invariant c.loop-r-test.true c.look_at-hand.ensures
+pub returns-then-taxon-eq0 : goal.returns-then-taxon-eq0
+returns-then-taxon-eq0 c = hand_none c.look_at_all-taxon.ensures c.if-taxon-eq0.true
 
 pub returns : goal.returns
-returns c = choosing_ends c.loop-r.invariant c.loop-r-test.false
+returns c = hand_some c.look_at_all-taxon.ensures c.if-taxon-eq0.false

@@ -3,22 +3,28 @@ use Rattle.quick.proofs.Holding.{rising}
 use Rattle.quick.proofs.Taking.{pick_record, spent_small, taking_stops, taking_goes, taking_ends}
 use Rattle.quick.proofs.picks.make_picks.Goals as goal
 
-pub returns-then-pick-eq0 : goal.returns-then-pick-eq0
-returns-then-pick-eq0 c = taking_stops c.loop-left.invariant c.next_pick-pick.ensures c.if-pick-eq0.true
+pub returns-in_default : goal.returns-in_default
+returns-in_default c = taking_stops c.loop.invariant c.next_pick.ensures c.in_default.is
+
+pub bounds-marks-pick : goal.bounds-marks-pick
+bounds-marks-pick c =
+    let h = c.loop.invariant in
+    let i = pick_record h c.next_pick.ensures c.in-Some.is in
+    omega (arith, i.low, i.high, h.ready.ready.base.is_set.whole)
 
 pub hold-requires : goal.hold-requires
 hold-requires c =
-    let h = c.loop-left.invariant in
+    let h = c.loop.invariant in
     let ready = h.ready.ready in
-    rising ready.base.base.formed.linked ready.base.parents_are (pick_record h c.next_pick-pick.ensures c.if-pick-eq0.false) ready.base.base.formed
+    rising ready.base.formed.linked ready.parents_are (pick_record h c.next_pick.ensures c.in-Some.is) ready.base.formed
     ready.held_are
 
 pub overflow_add-spent : goal.overflow_add-spent
-overflow_add-spent c = record { fits = omega (arith, spent_small c.loop-left.invariant c.next_pick-pick.ensures c.if-pick-eq0.false) }
+overflow_add-spent c = record { fits = omega (arith, spent_small c.loop.invariant c.next_pick.ensures c.in-Some.is) }
 
-pub loop-left-preserved : goal.loop-left-preserved
-loop-left-preserved c =
-    taking_goes c.loop-left.invariant c.next_pick-pick.ensures c.if-pick-eq0.false (omega (arith, c.loop-left-test.true)) c.hold.ensures
+pub loop-preserved : goal.loop-preserved
+loop-preserved c =
+    taking_goes c.loop.invariant c.next_pick.ensures c.in-Some.is c.loop-test.true c.hold.ensures
 
 pub returns : goal.returns
-returns c = taking_ends c.loop-left.invariant c.loop-left-test.false
+returns c = taking_ends c.loop.invariant c.loop-test.false

@@ -1,3 +1,4 @@
+use Rattle.std.proofs.Common.{arith}
 use Rattle.diversity.specs.Paths.{of_root}
 use Rattle.laws.proofs.Handing.{handing_starts}
 use Rattle.quick.proofs.Upwards.{climbing_goes, climbing_ends}
@@ -11,3 +12,9 @@ loop-r-preserved c = climbing_goes c.requires c.loop-r.invariant c.loop-r-test.t
 
 pub returns : goal.returns
 returns c = climbing_ends c.requires c.loop-r.invariant c.loop-r-test.false
+
+-- after the last record
+pub returns-2 : goal.returns-2
+returns-2 c =
+    let last = climbing_goes c.requires c.loop-r.invariant c.loop-r-test.true c.first_of-first.ensures c.next_of-next.ensures in
+    climbing_ends c.requires last (omega arith)

@@ -1,14 +1,19 @@
 use Rattle.std.proofs.Common.{◌≤◌, arith}
 use Rattle.quick.proofs.Holding.{going_starts, going_goes, going_ends, going_stops}
-use Rattle.quick.proofs.ways.hold.Goals as goal
+use Rattle.quick.proofs.ways.Ways.hold.Goals as goal
 
 pub loop-at-init : goal.loop-at-init
 loop-at-init c = going_starts
 
-pub returns-then-held-at-eq1 : goal.returns-then-held-at-eq1
-returns-then-held-at-eq1 c =
+pub loop-at-smaller : goal.loop-at-smaller
+loop-at-smaller c =
+    let g = c.loop-at.invariant in
+    rw g.kept (c.requires.earlier _ (omega (arith, c.loop-at-test.true)) g.below)
+
+pub returns-then-self-at : goal.returns-then-self-at
+returns-then-self-at c =
     let low : 1 ≤ c.loop-at.at = omega (arith, c.loop-at-test.true) in
-    going_stops c.requires c.loop-at.invariant low c.if-held-at-eq1.true
+    going_stops c.requires c.loop-at.invariant low c.if-self-at.true
 
 pub loop-at-preserved : goal.loop-at-preserved
 loop-at-preserved c =
