@@ -10,8 +10,7 @@ pub const UNIT: u64 = 65536;
 pub const LIFT: u64 = 4294967296;
 
 // Two words that compare as sets do, and are stored and read as they are. No set is a score of 0 and no `Option`: a cell is two
-// words of the memory that is lent through C, and `added` adds them with no test. With one all of choosing took 1.10 times as long
-// (docs/DECISIONS.md, 46).
+// words of the memory that is lent through C, and `added` adds them with no test.
 #[derive(Clone, Copy)]
 pub struct Candidate {
     // (locked taxa times LIFT + diversity + 1) times UNIT, less the cost; 0 for no set

@@ -78,7 +78,7 @@ pub fn better_by(work: &mut [u64], to: usize, c: Candidate, lo: usize, hi: usize
     each_column(work, to, lo, hi, |rows, b| read(rows, to + b).better(c));
 }
 
-// Makes each column of a row the better of two rows' columns.
+// Makes each column of a row the better of two rows' columns. It and `add_row` differ in what a column is made of, as closures do.
 pub fn better_rows(work: &mut [u64], to: usize, x: usize, y: usize, width: usize)
     requires { Betters work.old to x y width }
     ensures { Bettering to x y width work.old work.new }

@@ -35,7 +35,7 @@ fn column_of(best: Candidate, locks: u64) -> Column
     }
 }
 
-// Writes the curve from the table's top row, for an outline with so many locked taxa.
+// Writes the curve from the table's top row, for an outline with so many locked taxa. Its pairs stand in one list, as C reads them.
 pub fn write_curve(work: &[u64], width: usize, locks: u64, curve: &mut [u32])
     requires { Drawable work.now width curve.old }
     ensures { curve.new

@@ -1,4 +1,4 @@
-// Choosing: which taxa of an outline are best for a page count, and the curve of all counts up to it.
+// Choosing: which taxa of an outline are best for a page count, and the curve of all counts up to it. Way and buffers are C's, one by one.
 #![tactic(auto)]
 
 mod answer;

@@ -1,4 +1,4 @@
-// The line that is printed for a case.
+// The line that is printed for a case. A way is a number here: some cases hand over one that is none.
 use choice::{Figures, choose};
 use samples::buffers::{changed, front};
 use samples::ways::{BOTH, Way};

@@ -43,7 +43,7 @@ impl Generator {
     }
 
     // For each record from the second to the last, n, an earlier one for it to be a member of. Once there are 6 taxa it is one
-    // that has no members: it is no taxon from then on, and the member is one.
+    // that has no members: it is no taxon from then on, and the member is one. By number, which is what is drawn.
     fn parents(&mut self, n: usize) -> [usize; 12]
         requires { n < 12 }
     {

@@ -2,7 +2,7 @@
 // trying every set.
 ghost use Rattle.std.specs.Prelude.{◌≤◌};
 
-use outline::fields::{branch_of, first_of, is_locked, is_taxon, next_of, price_of};
+use outline::fields::{branch_of, first_of, is_locked, next_of, plate_of, price_of};
 use samples::outlines::Sample;
 use samples::ways::Way;
 use std::alloc::{AllocError, Global};
@@ -37,7 +37,7 @@ impl Tree {
         // by number: links are numbers of records
         for r in (1..=outline.len).rev() {
             let mut taxa = chains.get(first_of(o, r)).copied().unwrap_or(0);
-            if is_taxon(o, r) {
+            if plate_of(o, r) != 0 {
                 taxa = sets;
                 sets = sets.wrapping_mul(2);
             }
@@ -59,7 +59,7 @@ impl Tree {
     pub fn has(&self, set: u32, r: usize) -> bool
         requires { (1 ≤ r) × (r ≤ self.now.outline.len) }
     {
-        is_taxon(self.outline.bytes(), r) && set & self.under[r] != 0
+        plate_of(self.outline.bytes(), r) != 0 && set & self.under[r] != 0
     }
 
     // What a set is worth: the prices of its taxa and of the groups above them, and the lengths above them, unrooted those

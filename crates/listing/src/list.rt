@@ -1,4 +1,4 @@
-// The listing of an input.
+// The listing of an input. The way is a number of the input, and goes on as it came.
 ghost use Rattle.std.specs.Prelude.{◌*◌, ◌≤◌, ◌<◌, length};
 ghost use Rattle.text.specs.Written.{LongEnough, Put, Written};
 ghost use Rattle.listing.specs.FromBuffers.{whole_text, Listed};

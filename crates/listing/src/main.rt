@@ -13,7 +13,8 @@ mod taxa;
 
 use std::io::{Read, Write};
 
-// Reads until the buffer is full or the input ends, and answers how many bytes it has put at the beginning of the buffer.
+// Reads until the buffer is full or the input ends, and answers how many bytes it has put at the beginning of the buffer. Each turn
+// puts at least one, so that there are no more turns than bytes.
 fn read_full<R: Read>(reader: &mut R, buffer: &mut [u8]) -> std::io::Result<usize>
     ensures within { ReadsAtMost result buffer.new }
     ensures bytes { IfOk result (λ n. Consumes (R.remaining reader.old) (R.remaining reader.new) (take n buffer.new)) }

@@ -8,8 +8,8 @@ ghost use Rattle.listing.specs.Printed.{sheet_text};
 use sheet::sheet;
 use text::Pen;
 
-// A line for each row: plate, quarters added, diversity added. It is `put_columns` but for a row's numbers; a closure that told them
-// would need a contract at each caller, longer than the loop.
+// A line for each row: plate, quarters added, diversity added. It is `put_columns` but for a row's numbers: the borrow checker covers
+// no closure that answers `[u64; N]`, and one of `[u64; 3]` would need a contract at each caller, longer than the loop.
 fn put_taxa(pen: &mut Pen<u8>, sheet: &[u32], rows: usize)
     requires { (3 * rows ≤ length sheet.now) × LongEnough (taxa_text sheet.now rows) pen.old }
     ensures { Put (taxa_text sheet.now rows) pen.old pen.new }

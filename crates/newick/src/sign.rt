@@ -1,4 +1,5 @@
-// The classes of bytes, by which the reader decides.
+// The classes of bytes, by which the reader decides. They share names with tokens and are no part of them: of a pattern within a
+// pattern a `_` arm would know nothing.
 
 // What a byte is in a text.
 #[derive(Clone, Copy, Debug, PartialEq, Eq)]

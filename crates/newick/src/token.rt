@@ -48,7 +48,8 @@ fn leading_digits(text: &[u8]) -> usize
     text.iter().take_while(|byte| byte.is_ascii_digit()).count()
 }
 
-// The number that a text begins with, and what is left after it. One of ten digits or more is no part of a tree.
+// The number that a text begins with, and what is left after it. One of ten digits or more is no part of a tree. A loop and no `fold`,
+// in whose closure the bound of the value is not known.
 fn first_number(text: &[u8]) -> (Token, &[u8])
     requires { BeginsNumber text.now }
     ensures { Met text.now result.0 result.1.now }

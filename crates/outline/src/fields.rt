@@ -6,7 +6,7 @@ ghost use Rattle.outline.specs.Outline.{short, long, next, first, branch, price,
 // Bit 31 of a plate field, the lock; the bits below it are the plate's number.
 pub const LOCK: u32 = 2147483648;
 
-// The number of two bytes at a place.
+// The number of two bytes at a place: `from_le_bytes` under the definition's name.
 pub fn short_at(o: &[u8], at: usize) -> u16
     requires { at + 1 < length o.now }
     ensures { result ≡ short o.now at }
@@ -14,7 +14,7 @@ pub fn short_at(o: &[u8], at: usize) -> u16
     u16::from_le_bytes([o[at], o[at + 1]])
 }
 
-// The number of four bytes at a place.
+// The number of four bytes at a place, likewise.
 fn long_at(o: &[u8], at: usize) -> u32
     requires { at + 3 < length o.now }
     ensures { result ≡ long o.now at }

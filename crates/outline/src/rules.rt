@@ -1,4 +1,4 @@
-// The conditions of refusals 5 to 8, record by record.
+// The conditions of refusals 5 to 8, record by record. Why outline and record are no struct stands in fields.rt.
 ghost use Rattle.std.specs.Prelude.{◌≡◌, ◌≤◌, ◌<◌, get_or};
 ghost use Rattle.lists.specs.Lists.{from, lowest as lowest_of, nonzero};
 ghost use Rattle.outline.specs.Inner.{counted, Tally};

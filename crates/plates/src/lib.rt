@@ -181,7 +181,7 @@ pub extern "C" fn plates_write(
     }
 }
 
-// Shows an outline to a house reader, and writes number and place; the number is given as well.
+// Shows an outline to a house reader, and writes number and place; the number is given as well. C calls both views by name.
 #[unsafe(no_mangle)]
 pub extern "C" fn plates_view_house(outline: &[u8], view: &mut [u8], answer: &mut [u32; 2]) -> u32
     ensures { Viewed house_view (viewing outline.now view.old) result answer.new view.new }

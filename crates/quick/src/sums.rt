@@ -15,7 +15,7 @@ pub struct Sums {
 }
 
 impl Sums {
-    // Before any record was looked at.
+    // Before any record was looked at. By name: an array of 128 has no `Default`.
     pub fn none() -> Sums
         ensures { NoSums result }
     {
@@ -35,7 +35,7 @@ impl Sums {
         self.costs[r] = self.costs[parent] + price_of(o, r);
     }
 
-    // Whether record t is picked rather than u.
+    // Whether record t is picked rather than u: by more, then by less, then by less, so that a tuple's order would turn one of them round.
     pub fn rather(&self, t: usize, u: usize) -> bool
         requires { SumsLong self.now × ((t < numbers) × (u < numbers)) }
         ensures { result ≡ rather_by

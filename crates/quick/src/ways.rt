@@ -6,7 +6,8 @@ ghost use Rattle.quick.specs.Inner.{Parents, Rising, Joined, Markable, HasHeld};
 use outline::fields::{first_of, next_of};
 use outline::limits::NUMBERS;
 
-// The parent of each record, 0 for record 1: a record is that of its first member, and hands its own on to the next of its chain.
+// The parent of each record, 0 for record 1: a record is that of its first member, and hands its own on to the next of its chain. By
+// number: a turn reads at a record's and writes at those of its links.
 fn parents_of(o: &[u8]) -> [usize; NUMBERS]
     requires { WellFormed o.now }
     ensures { Parents o.now result }

@@ -1,6 +1,6 @@
 -- Pairs of numbers gone through one by one, by the code and for the row that judges them.
 use Rattle.std.specs.Prelude.{if◌then◌else◌, Option, None, Some, is_some, count_by}
-use Rattle.std.specs.List.{find, list_any, range_with_len}
+use Rattle.std.specs.List.{find, list_any}
 use Rattle.std.specs.Simd.{first_chunks}
 use Rattle.std.proofs.lemmas.List.Sums.{sum_by-cons}
 use Prim.Native.Nat.{ℕ, zero, suc, ◌+◌, ◌/◌, ◌%◌}
@@ -68,17 +68,6 @@ counted_pairs (q ∷ (c ∷ rest)) p =
     go false h = ap (λ n. 0 + n) h
 
 -- ---- taxa without a pair, and pairs without a taxon
-
--- a test that holds somewhere
-pub any_anywhere : (test : ℕ → Bool) (xs : List ℕ) → list_any test xs ≡ anywhere test xs
-unfolding anywhere
-any_anywhere test [] = refl
-any_anywhere test (x ∷ xs) = ap (λ b. test x || b) (any_anywhere test xs)
-
-pub numbers_from : (a n : ℕ) → range_with_len a n ≡ from a n
-unfolding from
-numbers_from a zero = refl
-numbers_from a (suc n) = ap (λ xs. a ∷ xs) (numbers_from (a + 1) n)
 
 -- no taxon has a plate where none holds it
 holder_unmatched : (o : List ℕ) (q : ℕ) → not (is_some (nonzero (lowest (has_plate o q) (from 1 (size o))))) ≡ unmatched o q

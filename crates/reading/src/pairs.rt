@@ -6,6 +6,7 @@ ghost use Rattle.newick.specs.Pairs.{price_in, pairs_of, paired, bad_pairs};
 ghost use Rattle.newick.specs.Inner.{plates_of};
 ghost use Rattle.reading.specs.Inner.{by_two, unpaired, unmatched};
 
+use lists::lowest;
 use outline::fields::{is_taxon, plate_of};
 use outline::rules::holder_of;
 
@@ -16,7 +17,7 @@ fn by_two(pairs: &[u32]) -> &[[u32; 2]]
     pairs.as_chunks::<2>().0
 }
 
-// The price of the first pair of a plate, 0 if there is none.
+// The price of the first pair of a plate, 0 if there is none, as a record then has it.
 pub fn price_in(pairs: &[u32], plate: u32) -> u32
     ensures { result ≡ price_in pairs.now plate }
 {
@@ -52,8 +53,7 @@ fn is_unpaired(o: &[u8], pairs: &[u32], r: usize) -> bool
 fn any_unpaired(o: &[u8], pairs: &[u32]) -> bool
     ensures { result ≡ anywhere (unpaired o.now pairs.now) (records o.now) }
 {
-    let n = o.len() / 16;
-    (1..n + 1).any(|r| is_unpaired(o, pairs, r))
+    lowest(o.len() / 16, |r| is_unpaired(o, pairs, r)).is_some()
 }
 
 // Whether a pair is without a taxon.

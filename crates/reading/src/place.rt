@@ -17,7 +17,7 @@ pub struct Place<'a> {
 impl<'a> Place<'a> {
     ghost use Rattle.reading.specs.Scan.{FromTaxon, FromPart};
 
-    // Where a part is wanted: the place after the first taxon, past the lists that open before it.
+    // Where a part is wanted: the place after the first taxon, past the lists that open before it, however many.
     pub fn past_taxon(text: &'a [u8], depth: usize) -> Option<Place<'a>>
         requires { depth + length text.now < 2 ^ 64 }
         ensures { FromTaxon text.now depth result }

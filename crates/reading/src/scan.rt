@@ -16,7 +16,7 @@ pub fn ends(token: Token, rest: &[u8]) -> bool
     }
 }
 
-// The place after the part that a text begins with.
+// The place after the part that a text begins with: on and on, until no list is open.
 fn past_part(text: &[u8]) -> Option<Place<'_>>
     ensures { MatchOption result (is_tree (grown text.now) ≡ false) (λ p. is_tree (grown text.now) ≡ ends (p.token ∷ tokens_of p.rest.now)) }
 {

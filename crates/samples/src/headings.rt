@@ -21,6 +21,17 @@ impl Sample {
     }
 }
 
+// Tree A with headings, and with record 4 for the taxon that the text has last, between the records of the group's two members.
+pub fn interleaved(root: u32, group: u32) -> Sample {
+    Sample::new(&[
+        [0, 2, 0, root, 0],
+        [4, 3, 3, group, 0],
+        [5, 0, 4, 3, 11],
+        [0, 0, 5, 2, 13],
+        [0, 0, 2, 1, 12],
+    ])
+}
+
 // Two taxa deep below the only member of the root, with a heading for the root and one for that member: 4 records.
 pub fn deep_pair(root: u32, group: u32) -> Sample {
     Sample::new(&[

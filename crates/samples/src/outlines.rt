@@ -1,7 +1,8 @@
 // Outlines, made record by record as document 01 writes them: next, first, length, price, plate.
 ghost use Rattle.std.specs.Prelude.{◌≡◌, ◌*◌, ◌≤◌, length};
 
-// At most 129 records, two more than an outline may have. The bytes past them are 0.
+// At most 129 records, two more than an outline may have. The bytes past them are 0. An array, so that a sample is copied and made
+// another with no memory asked for.
 #[derive(Clone, Copy)]
 pub struct Sample {
     records: [[u8; 16]; 129],

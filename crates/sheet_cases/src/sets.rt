@@ -1,7 +1,7 @@
 // Sets that are listed.
 use super::show::call;
-use samples::headings::{deep_pair, free_pair, two_families};
-use samples::outlines::{Sample, one_record, star, tree_a, tree_a_with_headings};
+use samples::headings::{deep_pair, free_pair, interleaved, two_families};
+use samples::outlines::{one_record, star, tree_a, tree_a_with_headings};
 use std::io;
 
 // Sets of an outline in which records 3, 4 and 5 are the taxa. Marks past those of the records may be anything.
@@ -14,24 +14,13 @@ fn sets(rt: &(impl Print + AllocGlobal), label: &str, o: &[u8]) -> io::Result<()
     call(rt, label, o, 1, 30, &[0, 0, 1, 1, 1])
 }
 
-// Tree A with headings, and with record 4 for the taxon that the text has last, between the records of the group's two members.
-fn interleaved() -> Sample {
-    Sample::new(&[
-        [0, 2, 0, 1, 0],
-        [4, 3, 3, 2, 0],
-        [5, 0, 4, 3, 11],
-        [0, 0, 5, 2, 13],
-        [0, 0, 2, 1, 12],
-    ])
-}
-
 // A heading is in the row of the first chosen taxon below it. A lock is no part of the plate, and the set need not hold it. Rows
 // are in record order.
 fn trees(rt: &(impl Print + AllocGlobal)) -> io::Result<()> {
     sets(rt, "tree A", tree_a().bytes())?;
     sets(rt, "headings 1 and 2", tree_a_with_headings(1, 2).bytes())?;
     sets(rt, "11 and 13 locked", tree_a().locked(5).bytes())?;
-    sets(rt, "interleaved", interleaved().bytes())
+    sets(rt, "interleaved", interleaved(1, 2).bytes())
 }
 
 // A group within a group, a root with one member, a single taxon, free taxa, a star, and a set that fits no page count.

@@ -1,4 +1,4 @@
-// The line that is printed for a call.
+// The line that is printed for a call. A way is a number here: some calls hand over one that is none.
 use samples::buffers::{changed, front};
 use samples::words::{Listed, Refused};
 use sheet::{Figures, sheet};

@@ -1,5 +1,5 @@
 // Text put into a lent buffer: a pen, and what it puts there, bytes, numbers and lines of numbers. The rest of the buffer keeps what it
-// holds.
+// holds. That a text fits is required of each text, and no invariant of the pen, which does not know what comes.
 #![tactic(auto)]
 
 ghost use Rattle.std.specs.Prelude.{◌<◌, length};
@@ -26,7 +26,7 @@ impl<T: Copy> Pen<'_, T> {
 }
 
 impl Pen<'_, u8> {
-    // A number in decimal digits.
+    // A number in decimal digits, with no formatter, whose text no contract tells.
     pub fn put_number(&mut self, n: u64)
         requires { LongEnough (decimal n) self.old }
         ensures { Put (decimal n) self.old self.new }

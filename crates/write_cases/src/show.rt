@@ -59,7 +59,7 @@ fn is_written_again(alloc: Global, outline: &[u8], first: Written<'_>) -> Result
     }
 }
 
-// What is written of an outline, and what reading that gives.
+// What is written of an outline, and what reading that gives, with a line of its own and no `Display`, which could not write again.
 fn say_written(
     rt: &(impl Print + AllocGlobal),
     outline: &[u8],

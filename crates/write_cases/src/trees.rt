@@ -1,6 +1,6 @@
 // Outlines that are written.
 use super::show::{case, write_to};
-use samples::headings::{deep_pair, free_pair, two_families};
+use samples::headings::{deep_pair, free_pair, interleaved, two_families};
 use samples::outlines::{Sample, one_record, pairs, star, tree_a};
 use std::io;
 
@@ -15,22 +15,11 @@ pub fn level_by_level() -> Sample {
     ])
 }
 
-// With record 4 for it, between the records of the group's two members.
-fn interleaved() -> Sample {
-    Sample::new(&[
-        [0, 2, 0, 0, 0],
-        [4, 3, 3, 0, 0],
-        [5, 0, 4, 3, 11],
-        [0, 0, 5, 2, 13],
-        [0, 0, 2, 1, 12],
-    ])
-}
-
 // Members in chain order and pairs in text order, however the records are numbered.
 fn orders(rt: &(impl Print + AllocGlobal)) -> io::Result<()> {
     case(rt, "tree A", tree_a().bytes())?;
     case(rt, "tree A, level by level", level_by_level().bytes())?;
-    case(rt, "tree A, interleaved", interleaved().bytes())
+    case(rt, "tree A, interleaved", interleaved(0, 0).bytes())
 }
 
 // Single taxa, by length, price and plate: no leading zeros, and no others left out.

@@ -8,7 +8,7 @@ ghost use Rattle.outline.specs.Rules.{most_records};
 
 use outline::fields::{branch_of, is_taxon, next_of, plate_of};
 
-// How many digits a number has.
+// How many digits a number has, by recursion as `decimal` is defined.
 fn digits_of(n: u32) -> usize
     ensures value { result ≡ length (decimal n) }
     ensures upper_bound { result ≤ 10 }
@@ -33,7 +33,7 @@ fn own_bytes(o: &[u8], r: usize) -> usize
     2 + after
 }
 
-// The bytes of all records.
+// The bytes of all records. A loop, whose invariant says that each adds at most 30: a `sum` would ask for that of a list.
 pub fn bytes_of(o: &[u8]) -> usize
     requires { size o.now ≤ most_records }
     ensures { result ≡ total (own_bytes o.now) (records o.now) }
