@@ -18,7 +18,7 @@ unfolding chain
 chain_none zero o = refl
 chain_none (suc k) o = refl
 
-length_total : (xs : List ℕ) → length xs ≡ total (λ x. 1) xs
+pub length_total : (xs : List ℕ) → length xs ≡ total (λ x. 1) xs
 unfolding total
 length_total [] = refl
 length_total (x ∷ xs) = omega (arith, length_total xs)

@@ -8,11 +8,11 @@ use native.Mathlib.Omega.{arith}
 use lib.Dec.{eqb}
 use borrow.Author.Tests.{eqb-true, eqb-false}
 use Rattle.lists.specs.Lists.{one, total}
-use Rattle.outline.specs.Outline.{size, next, first, records, is_taxon}
+use Rattle.outline.specs.Outline.{size, next, first, records, is_taxon, IsRecord}
 use Rattle.outline.specs.WellFormed.{Linked}
 use Rattle.diversity.specs.Diversity.{chain}
 use Rattle.laws.specs.Forest.{Forest, empty, node, sum_in, count_in, shape, tree}
-use Rattle.laws.proofs.Sums.{occurs, occurs_most, total_append, total_most}
+use Rattle.laws.proofs.Sums.{occurs, occurs_most, occurs_range, total_append, total_most}
 use Rattle.laws.proofs.Links.{Namer, by_next, by_first, namer, total_by_links}
 
 -- the records of a forest
@@ -105,6 +105,13 @@ module _ (o : List ℕ) (linked : Linked o) where
   -- the records of a forest are the outline's, each at most once
   pub inside : (r : ℕ) → r ≤ size o → (t : ℕ) → count_in t (tree o r) ≤ occurs t (records o)
   inside r u t = sum_part (λ q f. one (eqb t q)) r u
+
+  -- so its records are the outline's
+  pub in_tree : (r : ℕ) → r ≤ size o → (q : ℕ) → 0 < count_in q (tree o r) → IsRecord o q
+  unfolding records
+  in_tree r u q h =
+      let w = occurs_range q 1 (size o) (omega (arith, inside r u q)) in
+      record { low = w.0; high = omega (arith, w.1) }
 
   pub distinct : (r : ℕ) → r ≤ size o → (t : ℕ) → count_in t (tree o r) ≤ 1
   unfolding records

@@ -12,6 +12,7 @@ pub mod Links
 pub mod Locks
 pub mod Marks
 pub mod Measures
+pub mod Members
 pub mod More
 pub mod Numbers
 pub mod Optimum

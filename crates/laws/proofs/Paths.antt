@@ -50,7 +50,7 @@ module _ (o : List ℕ) (linked : Linked o) where
   way_earlier itself = omega arith
   way_earlier (parent w x) = omega (arith, way_earlier w, parent_later x)
 
-  way_most : {t r : ℕ} → OnWay o t r → r ≤ size o → t ≤ size o
+  pub way_most : {t r : ℕ} → OnWay o t r → r ≤ size o → t ≤ size o
   way_most itself u = u
   way_most (parent w x) u = way_most w (parent_later x).1
 
@@ -118,7 +118,7 @@ module _ (o : List ℕ) (linked : Linked o) where
       λ (t, c, w). (clade_way (chosen s) r i).1 (t, w, c.1),
     )
 
-    in_clade : (t : ℕ) → anywhere (eqb t) (clade o r) ≡ true ↔ OnWay o t r
+    pub in_clade : (t : ℕ) → anywhere (eqb t) (clade o r) ≡ true ↔ OnWay o t r
     in_clade t = (
       λ e. let (q, w, c) = (clade_way (eqb t) r i).0 e in subst (λ q. OnWay o q r) (sym (eqb-true t q c)) w,
       λ w. (clade_way (eqb t) r i).1 (t, w, eq-eqb t t refl),

@@ -20,7 +20,7 @@ use Rattle.laws.proofs.Forest.{tree_step, sum_all, reach, distinct}
 use Rattle.laws.proofs.Paths.{parent_later, way_earlier, parent_part, one_side, rooted_on_way, unrooted_between}
 
 -- how often q is in the chain that begins a forest
-abbrev tops_in : ℕ → Forest → ℕ
+abbrev pub tops_in : ℕ → Forest → ℕ
 tops_in q empty = 0
 tops_in q (node r f n) = one (eqb q r) + tops_in q n
 
@@ -52,24 +52,24 @@ smallest_whole tree x a r i e = (tree.least _ (λ y z b c. walk_near (tree.conne
 
 module _ (o : List ℕ) (linked : Linked o) where
   -- ---- each record has one parent
-  parent_of : (q : ℕ) → 1 ≤ q → q ≤ size o → (p : ℕ) × Parent o p q
+  pub parent_of : (q : ℕ) → 1 ≤ q → q ≤ size o → (p : ℕ) × Parent o p q
   parent_of q l u =
       reach o linked (λ q. 1 ≤ q → (p : ℕ) × Parent o p q) (λ h. (0, of_root))
       (λ r l u x. (λ h. (r, of_first (record { low = l; high = u }) h), λ h. ((x l).0, of_next (x l).1 h))) q q (omega arith) l u l
 
-  under_root : {p q : ℕ} → Parent o p q → p ≡ 0 → q ≡ 1
+  pub under_root : {p q : ℕ} → Parent o p q → p ≡ 0 → q ≡ 1
   under_root of_root e = refl
   under_root (of_first i h) e = absurd (omega (arith, i.low))
   under_root (of_next x h) e = absurd (omega (arith, ap (next o) (under_root x e), linked.root_alone))
 
   -- how often q is among the members of r
-  abbrev members_in : ℕ → ℕ → ℕ
+  abbrev pub members_in : ℕ → ℕ → ℕ
   members_in q r = tops_in q (tree o (first o r))
 
   members_most : (q : ℕ) → total (members_in q) (records o) ≤ 1
   members_most q = omega (arith, sum_all o linked (λ r f. tops_in q f), tops_count q (tree o 1), distinct o linked 1 linked.filled q)
 
-  members_some : {p q : ℕ} → Parent o p q → 1 ≤ p → 1 ≤ members_in q p
+  pub members_some : {p q : ℕ} → Parent o p q → 1 ≤ p → 1 ≤ members_in q p
   members_some {p} {q} x l =
       let later = parent_later o linked x in
       omega (
@@ -99,11 +99,11 @@ module _ (o : List ℕ) (linked : Linked o) where
           ))
 
   -- ---- ways, from a parent and from its member
-  way_down : {t u r : ℕ} → OnWay o t r → Parent o t u → OnWay o u r
+  pub way_down : {t u r : ℕ} → OnWay o t r → Parent o t u → OnWay o u r
   way_down itself y = parent itself y
   way_down (parent w x) y = parent (way_down w y) x
 
-  way_up : {t u r : ℕ} → OnWay o u r → Parent o t u → (u ≡ r) ⊎ OnWay o t r
+  pub way_up : {t u r : ℕ} → OnWay o u r → Parent o t u → (u ≡ r) ⊎ OnWay o t r
   way_up itself y = inl refl
   way_up {t} {u} (parent {p} {q} w x) y =
       ⊎_elim (λ (e : u ≡ q). inr (subst (OnWay o t) (parent_one (subst (Parent o t) e y) x) itself)) (λ (v : OnWay o t q). inr (parent v x)) (way_up w y)

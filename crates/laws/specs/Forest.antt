@@ -18,6 +18,10 @@ abbrev pub sum_in : (ℕ → Forest → ℕ) → Forest → ℕ
 sum_in w empty = 0
 sum_in w (node r f n) = w r f + (sum_in w f + sum_in w n)
 
+-- how many records a forest has
+abbrev pub records_in : Forest → ℕ
+records_in F = sum_in (λ r f. 1) F
+
 -- how often t stands in a forest
 abbrev pub count_in : ℕ → Forest → ℕ
 count_in t F = sum_in (λ r f. one (eqb t r)) F

@@ -1,4 +1,4 @@
--- Buffers that are written over number by number, from the left or from the right.
+-- Buffers that are written over number by number, from the left or from the right; and that a slice of bytes is bytes.
 use Prim.Native.Nat.{ℕ, zero, suc, ◌+◌, ◌-◌, ◌≤◌, ◌<◌}
 use mathlib.Core.Path.{◌≡◌, refl, sym, ap, ◌∙◌}
 use mathlib.Core.List.{List, [], ◌∷◌, ◌++◌}
@@ -7,7 +7,12 @@ use native.Mathlib.Numerals.{add-one}
 use lib.ListN.{length, get_or, take, drop, set, length-append, length-drop, take-append-drop}
 use lib.ListN.{get_or-append}
 use lib.Seq.{take-length, take_at, drop_at}
-use Rattle.lists.specs.Lists.{over}
+use Rattle.std.proofs.Common.{Fits, w8}
+use Rattle.lists.specs.Lists.{over, Bytes}
+
+-- what a `&[u8]` is known to hold
+pub bytes_small : {xs : List ℕ} → ((i : ℕ) → Fits w8 (get_or xs i 0)) → Bytes xs
+bytes_small h = record { small = λ i. omega (arith, h i) }
 
 -- one number more from the left, and from the right
 one_up : (a b : List ℕ) (i : ℕ) → i < length a → i < length b → set (take i a ++ drop i b) i (get_or a i 0) ≡ take (suc i) a ++ drop (suc i) b

@@ -13,7 +13,7 @@ use Rattle.outline.specs.Outline.{size, next, branch, price, is_taxon}
 use Rattle.outline.specs.Rules.{most_records}
 use Rattle.outline.specs.WellFormed.{WellFormed}
 use Rattle.laws.specs.Candidate.{plus, nothing_worth, heading, none, some, better_of, join_of, one_at}
-use Rattle.laws.specs.Forest.{tree}
+use Rattle.laws.specs.Forest.{records_in, tree}
 use Rattle.laws.specs.Numbers.{weight}
 use Rattle.laws.proofs.Forest.{tree_zero, tree_step, sum_most}
 use Rattle.laws.proofs.Order.{value_path, better_none}
@@ -24,7 +24,7 @@ use Rattle.rows.proofs.Steps.{pushed_zero, pushed_step, rooted_step, under_step,
 use Rattle.cells.specs.Cells.{cell}
 use Rattle.cells.specs.Memory.{row_at, Charges, charge_over, Charging}
 use Rattle.table.specs.Table.{taxon_worth, start, Base, pushed_from, rooted_from, across_from, alone_from, cross_from}
-use Rattle.table.specs.Spread.{Running, records_in, Spreadable, Spread, TaxonSpreadable, TaxonSpread, Crossable, Crossed, Meets, Met}
+use Rattle.table.specs.Spread.{Running, Spreadable, Spread, TaxonSpreadable, TaxonSpread, Crossable, Crossed, Meets, Met}
 use Rattle.table.proofs.Places.{gap, base_kept, blank_none, own_inside, own_above, AtRecord, to_next, to_first, lockings_here, branches_here, prices_here, codes_here}
 use Rattle.table.proofs.Pushing.{either, bounded_locked, bounded_diversity, bounded_cost}
 use Rattle.table.proofs.Crossing.{cross_bounded}

@@ -2,7 +2,7 @@
 use Rattle.std.specs.Prelude.{ℕ, ◌+◌, ◌*◌, ◌-◌, ◌<◌, ◌≤◌, ◌≡◌, ◌⊎◌, false, List, length}
 use Rattle.outline.specs.Outline.{size, next, first, branch, price, is_taxon}
 use Rattle.laws.specs.Candidate.{nothing_worth, heading, some, better_of, one_at, From}
-use Rattle.laws.specs.Forest.{Forest, sum_in, tree}
+use Rattle.laws.specs.Forest.{records_in, tree}
 use Rattle.laws.specs.Numbers.{weight}
 use Rattle.rows.specs.Rows.{Row, join_row}
 use Rattle.cells.specs.Cells.{unit, lift, word_limit, cell, Chargeable}
@@ -15,10 +15,6 @@ use Rattle.rows.specs.Bounds.{Bounded, prices}
 pub record Running (o : List ℕ) (w : ℕ) (l : List ℕ) : Type 0 where
   pub base : Base o w l
   pub least : (b : ℕ) → b < w → better_of (cell l (2 * w + b)) (some nothing_worth) ≡ cell l (2 * w + b)
-
--- how many records stand in a forest
-abbrev pub records_in : Forest → ℕ
-records_in F = sum_in (λ r f. 1) F
 
 -- m is l with the running optimum bettered by a row, and else as it was
 pub record Bettered (w : ℕ) (x : Row) (l m : List ℕ) : Type 0 where

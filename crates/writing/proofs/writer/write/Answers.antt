@@ -1,51 +1,47 @@
 -- `writing::writer::write` meets its contract: the rows in their order.
-use Rattle.std.proofs.Common.{arith, ℕ, List, get_or, Fits, w8}
-use Rattle.lists.specs.Lists.{Bytes}
+use Rattle.std.proofs.Common.{arith}
+use Rattle.lists.proofs.Buffers.{bytes_small}
 use Rattle.refusals.proofs.Refusals.{handed_on}
 use Rattle.writing.specs.Answer.{call}
 use Rattle.writing.proofs.Answers.{check_refused, formed_by, place_refused, bytes_few, room_refused, writable, all_written}
 use Rattle.writing.proofs.writer.write.Goals as goal
 
--- the outline is bytes
-small : {o : List ℕ} → ((i : ℕ) → Fits w8 (get_or o i 0)) → Bytes o
-small h = record { small = λ i. omega (arith, h i) }
-
 pub returns-in_err-check : goal.returns-in_err-check
-returns-in_err-check c = rw (handed_on _ c.from_residual.ensures.1) (check_refused _ (small c.type_inv.outline) _ c.in_err-check.ensures)
+returns-in_err-check c = rw (handed_on _ c.from_residual.ensures.1) (check_refused _ (bytes_small c.type_inv.outline) _ c.in_err-check.ensures)
 
 pub returns-in-Some : goal.returns-in-Some
-returns-in-Some c = place_refused _ (small c.type_inv.outline) c.in_ok-check.ensures c.in-Some.ensures
+returns-in-Some c = place_refused _ (bytes_small c.type_inv.outline) c.in_ok-check.ensures c.in-Some.ensures
 
 pub bytes_of-bytes-requires : goal.bytes_of-bytes-requires
 bytes_of-bytes-requires c =
     let lent = call c.args.outline.now c.args.text.now c.args.pairs.now in
-    (formed_by lent (small c.type_inv.outline) c.in_ok-check.ensures).size_most
+    (formed_by lent (bytes_small c.type_inv.outline) c.in_ok-check.ensures).size_most
 
 pub overflow_add-bytes : goal.overflow_add-bytes
 overflow_add-bytes c =
     let lent = call c.args.outline.now c.args.text.now c.args.pairs.now in
     omega (
       arith,
-      bytes_few lent (small c.type_inv.outline) c.in_ok-check.ensures c.in_default.ensures c.bytes_of-bytes.ensures,
+      bytes_few lent (bytes_small c.type_inv.outline) c.in_ok-check.ensures c.in_default.ensures c.bytes_of-bytes.ensures,
     )
 
 pub overflow_mul-taxa : goal.overflow_mul-taxa
 overflow_mul-taxa c =
     let lent = call c.args.outline.now c.args.text.now c.args.pairs.now in
-    omega (arith, (formed_by lent (small c.type_inv.outline) c.in_ok-check.ensures).taxa_most)
+    omega (arith, (formed_by lent (bytes_small c.type_inv.outline) c.in_ok-check.ensures).taxa_most)
 
 pub returns-then-text-bytes : goal.returns-then-text-bytes
 returns-then-text-bytes c =
-    room_refused _ (small c.type_inv.outline) c.in_ok-check.ensures c.in_default.ensures c.bytes_of-bytes.ensures
+    room_refused _ (bytes_small c.type_inv.outline) c.in_ok-check.ensures c.in_default.ensures c.bytes_of-bytes.ensures
     c.taxa_of-taxa.ensures c.if-text-bytes.true
 
 pub write_all-requires : goal.write_all-requires
 write_all-requires c =
     let lent = call c.args.outline.now c.args.text.now c.args.pairs.now in
-    writable lent (small c.type_inv.outline) c.in_ok-check.ensures c.in_default.ensures c.bytes_of-bytes.ensures
+    writable lent (bytes_small c.type_inv.outline) c.in_ok-check.ensures c.in_default.ensures c.bytes_of-bytes.ensures
     c.taxa_of-taxa.ensures c.if-text-bytes.false
 
 pub returns : goal.returns
 returns c =
-    all_written _ (small c.type_inv.outline) c.in_ok-check.ensures c.in_default.ensures c.bytes_of-bytes.ensures
+    all_written _ (bytes_small c.type_inv.outline) c.in_ok-check.ensures c.in_default.ensures c.bytes_of-bytes.ensures
     c.taxa_of-taxa.ensures c.if-text-bytes.false c.write_all.ensures.text_after c.write_all.ensures.pairs_after
