@@ -18,8 +18,10 @@
  *     plates_sheet        the taxa of a set, with the quarters and the diversity that each adds
  *     plates_view_house   an outline as a house reader gets it, as it is
  *     plates_view_buyer   an outline as a buyer's reader gets it, without prices and locks
+ *     plates_house_form   the house form of an outline, one for all outlines of the same tree
+ *     plates_compare      whether two outlines are the same tree, and if not which of the two trees comes first
  *
- * Link with libplates.a (-lplates). It needs nothing but memcpy and memset, which every C library has.
+ * Link with libplates.a (-lplates). It needs nothing but memcpy, memmove and memset, which every C library has.
  *
  * Words
  *
@@ -36,6 +38,7 @@
  *     sheet      the taxa of a set in record order, each with its plate, the quarters and the diversity that it adds
  *     view       an outline as a reader gets it: as it is for a house reader, who may see prices and locks, and without these
  *                for a buyer's reader, who may not
+ *     house form the one outline that is written for a tree, however its members are ordered and its records numbered
  *
  *
  * THE OUTLINE
@@ -122,8 +125,9 @@
  *     ((11:4,12:2):3,13:5):0;
  *
  * plates_read accepts what plates_write has written. It gives back the same bytes if the records are numbered as in the text,
- * and so they are in every outline that plates_read made. Otherwise it numbers them anew, and of sets that are equal in
- * diversity and cost another may then be the best. What is read from a written text is written as the same text.
+ * and so they are in every outline that plates_read made, and in every house form (see below). Otherwise it numbers them anew,
+ * and of sets that are equal in diversity and cost another may then be the best. What is read from a written text is written as
+ * the same text.
  *
  * A heading with a price, a lock and a plate of 10 digits have no form in the text: an outline that has one is refused (13).
  * The caller may clear prices of headings and locks in a copy first. The taxon of record r is locked no more by
@@ -257,21 +261,70 @@
  * record. Nothing is written to the view then.
  *
  *
+ * ONE TREE, ONE FILE
+ *
+ * Authors send the same tree with the members of its groups in another order, or with its records numbered otherwise. Two
+ * outlines that plates_check accepts are the same tree if the records of the one can be numbered as those of the other such that
+ * each keeps its parent (the group that it is a member of), its length, its price and its plate field. So the order of members
+ * makes no difference. Another length, price (a heading's too), plate or lock makes another tree, and so does a group more or
+ * less, even one of length 0 with a single member.
+ *
+ * plates_house_form writes the house form of a tree. Each group has its members in the order of the smallest plate at or below
+ * them, the smallest first, and the records are numbered as in a text: the root first, then its first member with all below it,
+ * and so on. On the left an author has shuffled the members of tree A; on the right is the house form, which is tree A as it
+ * stands above:
+ *
+ *     (13:5,(12:2,11:4):3);                                 ((11:4,12:2):3,13:5);
+ *
+ *     record  next  first  length  price  plate             record  next  first  length  price  plate
+ *        1      0      2       0      0      0                 1      0      2       0      0      0
+ *        2      3      0       5      2     13                 2      5      3       3      0      0
+ *        3      0      4       3      0      0                 3      4      0       4      3     11
+ *        4      5      0       2      1     12                 4      0      0       2      1     12
+ *        5      0      0       4      3     11                 5      0      0       5      2     13
+ *
+ * In the house form the group comes before plate 13, since the smallest plate below it is 11. The locks are no part of the
+ * plates, so a lock moves no member.
+ *
+ * What is promised, of outlines that plates_check accepts:
+ *
+ * - Two outlines have equal house forms, byte for byte, exactly if they are the same tree.
+ * - The house form is an outline that plates_check accepts too. It has as many records and is the same tree: every length, price
+ *   and lock stays where it was in the tree. It is its own house form.
+ * - There is one text for one tree: what plates_write writes of a house form, text and pairs, plates_read reads as that house
+ *   form again, byte for byte. So of two house forms that plates_write does not refuse (13), text and pairs are the same exactly
+ *   if the trees are.
+ *
+ * plates_compare tells of two outlines whether they are the same tree, and if not which tree comes before the other. It goes by
+ * the bytes of the house forms, as memcmp does: the first byte in which they differ decides, and a form that is the beginning of
+ * the other comes before it. That is a total order of trees, as a sort asks for: the order is 0 exactly for the same tree; it
+ * turns round if the two outlines are exchanged; and if one tree comes before a second, and the second before a third, the first
+ * comes before the third. So a list of trees can be sorted and searched with it, however the members and the records of each
+ * stand. Beyond that it means nothing which of two trees comes before.
+ *
+ * The records of a house form may have other numbers than those of the outline that it was made of. So marks of the one do not
+ * fit the other, and since ties go by the numbers of records, of sets that are equal in diversity and cost another may be the
+ * best. The curve is the same for both.
+ *
+ *
  * WHAT THE CALLER HAS TO KEEP
  *
  * marks, curve and work of plates_choose are lent space, and so are the marks of plates_quick, the outline of plates_read, the
- * text and pairs of plates_write, the sheet of plates_sheet and the view of plates_view_house and plates_view_buyer: buffers
- * that a result is written to, and that a refusal leaves as they were. answer, place and ceiling are no lent space. They carry
- * the numbers that a call gives, so they are written in any case, on a refusal too.
+ * text and pairs of plates_write, the sheet of plates_sheet, the view of plates_view_house and plates_view_buyer, the form of
+ * plates_house_form and both forms of plates_compare: buffers that a result is written to, and that a refusal leaves as they
+ * were. answer, place, ceiling and order are no lent space. They carry the numbers that a call gives, so they are written in any
+ * case, on a refusal too.
  *
  * - No pointer is null, not even where the length is 0, and each points to at least as many elements as its length says.
- *   Lengths are numbers of elements: text_len, outline_len, marks_len and view_len in bytes, pairs_len, curve_len and sheet_len
- *   in uint32_t, work_len in uint64_t. The answer of plates_choose has 6 elements, that of plates_read has 3, that of
- *   plates_write has 4, that of plates_quick and plates_sheet has 5, that of plates_view_house and plates_view_buyer has 2;
- *   place and ceiling have 1.
- * - Each pointer is aligned as its element type asks. text, outline, marks and view may begin at any byte.
- * - What a call writes (lent space, answer, place, ceiling) overlaps nothing else that it is handed: a view is not made in the
- *   place of its outline. What a call only reads may overlap: the outline and the marks of plates_sheet may be the same memory.
+ *   Lengths are numbers of elements: text_len, outline_len, a_len, b_len, marks_len, view_len, form_len, form_a_len and
+ *   form_b_len in bytes, pairs_len, curve_len and sheet_len in uint32_t, work_len in uint64_t. The answer of plates_choose has 6
+ *   elements, that of plates_read has 3, that of plates_write has 4, that of plates_quick and plates_sheet has 5, that of
+ *   plates_view_house, plates_view_buyer, plates_house_form and plates_compare has 2; place, ceiling and order have 1.
+ * - Each pointer is aligned as its element type asks. Text, outlines, marks, views and forms may begin at any byte.
+ * - What a call writes (lent space, answer, place, ceiling, order) overlaps nothing else that it is handed: neither a view nor a
+ *   house form is made in the place of its outline, and the two forms of plates_compare overlap neither outline nor each other.
+ *   What a call only reads may overlap: the outline and the marks of plates_sheet may be the same memory, and so may the two
+ *   outlines of plates_compare.
  * - While a call runs, nobody else writes what it is handed, and nobody else reads what it writes.
  *
  * What stands before a call where it writes makes no difference; that need not be initialised.
@@ -286,12 +339,12 @@
  * - Nothing is written but what is named at each function, and no byte 0 behind a text. Only plates_read writes to the outline
  *   that it is handed, and only plates_choose and plates_quick to the marks.
  * - The time of a call is bounded. That of plates_choose grows linearly with the count; checking, finding, the quick choice,
- *   the sheet and the views take at most a few steps for each pair of records, the quick choice also for each pick with each
- *   record, writing also for each byte of the text, and reading also for each byte of the text and for each record with each
- *   pair of numbers.
- * - Little stack is used, since the table stands in work: choosing, the quick choice, writing and the sheet nest no deeper than
- *   there are records, which takes less than 64 KB on x86-64 for the deepest outlines. Reading a text takes less than 70 KB,
- *   however deep it is: its calls nest for 127 records, and no deeper.
+ *   the sheet, the views, the house form and comparing take at most a few steps for each pair of records of an outline, the quick
+ *   choice also for each pick with each record, writing also for each byte of the text, and reading also for each byte of the
+ *   text and for each record with each pair of numbers.
+ * - Little stack is used, since the table stands in work: choosing, the quick choice, writing, the sheet, the house form and
+ *   comparing nest no deeper than there are records, which takes less than 64 KB on x86-64 for the deepest outlines. Reading a
+ *   text takes less than 70 KB, however deep it is: its calls nest for 127 records, and no deeper.
  */
 #ifndef PLATES_H
 #define PLATES_H
@@ -339,14 +392,16 @@ extern "C" {
  *     work      uint64_t    PLATES_WORK_LEN(records, count)
  *     sheet     uint32_t    PLATES_SHEET_LEN(taxa)
  *     view      bytes       PLATES_OUTLINE_LEN(records)
+ *     form      bytes       PLATES_OUTLINE_LEN(records)
  *
  * text is that of plates_write, and its length one that always suffices: 18 bytes for each taxon and 10 for each group, as many
  * as there are where every plate has 9 digits and every length 7. The other lengths are exact; the taxa of the sheet are those
  * of the marked set.
  *
  * answer is no buffer, and always has PLATES_ANSWER_LEN uint32_t, for plates_read PLATES_READ_ANSWER_LEN, for plates_write
- * PLATES_WRITE_ANSWER_LEN, for plates_quick PLATES_QUICK_ANSWER_LEN, for plates_sheet PLATES_SHEET_ANSWER_LEN, and for
- * plates_view_house and plates_view_buyer PLATES_VIEW_ANSWER_LEN: see below.
+ * PLATES_WRITE_ANSWER_LEN, for plates_quick PLATES_QUICK_ANSWER_LEN, for plates_sheet PLATES_SHEET_ANSWER_LEN, for
+ * plates_view_house and plates_view_buyer PLATES_VIEW_ANSWER_LEN, and for plates_house_form and plates_compare
+ * PLATES_FORM_ANSWER_LEN: see below.
  */
 #define PLATES_OUTLINE_LEN(records) (PLATES_CAST_(size_t, PLATES_RECORD_BYTES) * PLATES_CAST_(size_t, records))
 #define PLATES_PAIRS_LEN(taxa) (PLATES_CAST_(size_t, 2) * PLATES_CAST_(size_t, taxa))
@@ -372,6 +427,16 @@ extern "C" {
 enum plates_way {
     PLATES_ROOTED = 0,
     PLATES_UNROOTED = 1
+};
+
+/* The orders of two trees, as plates_compare writes them. */
+enum plates_order {
+    /* The first tree comes before the second. */
+    PLATES_BEFORE = -1,
+    /* They are the same tree. */
+    PLATES_SAME = 0,
+    /* The first tree comes after the second. */
+    PLATES_AFTER = 1
 };
 
 /*
@@ -404,8 +469,9 @@ enum plates_refusal {
     /* An earlier taxon has the same plate, whatever their locks; place is the lowest such record, so the later of the two. */
     PLATES_DUPLICATE_PLATE = 8,
     /* marks, curve or work of plates_choose is shorter than PLATES_MARKS_LEN, PLATES_CURVE_LEN or PLATES_WORK_LEN says, or the
-     * marks of plates_quick than PLATES_MARKS_LEN says, or the outline of plates_read or a view than PLATES_OUTLINE_LEN says,
-     * or the text or the pairs of plates_write than what is to be written, or the sheet than PLATES_SHEET_LEN says; place 0. */
+     * marks of plates_quick than PLATES_MARKS_LEN says, or the outline of plates_read, a view or a house form than
+     * PLATES_OUTLINE_LEN says, or the text or the pairs of plates_write than what is to be written, or the sheet than
+     * PLATES_SHEET_LEN says; place 0. */
     PLATES_BUFFER_TOO_SHORT = 9,
     /* The text is no tree in the form above, or has more than 16,384 bytes; place 0. */
     PLATES_BAD_TEXT = 10,
@@ -490,6 +556,12 @@ enum plates_sheet_answer {
 enum plates_view_answer {
     /* The number of elements. */
     PLATES_VIEW_ANSWER_LEN = 2
+};
+
+/* The same for plates_house_form and plates_compare, which give no more either; the order is written beside the answer. */
+enum plates_form_answer {
+    /* The number of elements. */
+    PLATES_FORM_ANSWER_LEN = 2
 };
 
 /*
@@ -609,6 +681,38 @@ uint32_t plates_view_house(const uint8_t *outline, size_t outline_len, uint8_t *
  *            its plate field
  */
 uint32_t plates_view_buyer(const uint8_t *outline, size_t outline_len, uint8_t *view, size_t view_len, uint32_t answer[2]);
+
+/*
+ * Writes the house form of an outline.
+ *
+ * Gives PLATES_OK, or the first of refusals 2, 3 and 5 to 9 that holds, and writes both elements of answer in any case. On
+ * PLATES_OK, for N records:
+ *
+ *     form   the first PLATES_OUTLINE_LEN(N): the house form
+ *
+ * Bytes beyond these stay as they were, so the form may be longer than needed. On a refusal all of it stays as it was. A form of
+ * PLATES_MOST_OUTLINE_LEN bytes has room for every outline.
+ */
+uint32_t plates_house_form(const uint8_t *outline, size_t outline_len, uint8_t *form, size_t form_len, uint32_t answer[2]);
+
+/*
+ * Compares two trees by their house forms.
+ *
+ * Gives PLATES_OK, or the first of these that holds: the refusal that plates_check gives for a; the one that it gives for b; 9,
+ * if one of the forms is too short or both are. Writes both elements of answer and *order in any case. The place is a record of
+ * a where plates_check refuses a, and otherwise of b. On PLATES_OK, for N records of a and M of b:
+ *
+ *     form_a   the first PLATES_OUTLINE_LEN(N): the house form of a
+ *     form_b   the first PLATES_OUTLINE_LEN(M): the house form of b
+ *     *order   PLATES_BEFORE, PLATES_SAME or PLATES_AFTER: a number as the comparison functions of qsort and bsearch give it
+ *
+ * Bytes beyond these stay as they were, so a form may be longer than needed. On a refusal both forms stay as they were, and
+ * *order is 0, as for the same tree, so look at the number first. Forms of PLATES_MOST_OUTLINE_LEN bytes have room for every
+ * outline.
+ */
+uint32_t plates_compare(const uint8_t *a, size_t a_len, const uint8_t *b, size_t b_len,
+                        uint8_t *form_a, size_t form_a_len, uint8_t *form_b, size_t form_b_len,
+                        uint32_t answer[2], int32_t *order);
 
 /* A number in one to four bytes, least significant first. For the functions below. */
 static inline void plates_put_field_(uint8_t *at, size_t bytes, uint32_t value) {

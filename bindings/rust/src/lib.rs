@@ -19,8 +19,11 @@
 //! or of any other set, with what each adds in quarters and in diversity. [`Outline::to_newick`]
 //! writes an outline as text again, to return a tree to its author. [`Outline::for_buyer`] gives
 //! what a buyer's editor may see, without prices and locks; [`view_buyer`] and [`view_house`] write
-//! what a buyer's and a house reader get to memory that the caller lends. What is wrong with a text,
-//! an outline, a page count, a number of picks or marks is told as a [`Refusal`].
+//! what a buyer's and a house reader get to memory that the caller lends. [`Outline::house_form`]
+//! gives the one outline of a tree, however its members are ordered and its records numbered, and
+//! [`Outline::cmp_tree`] compares two trees by it; [`house_form`] and [`compare`] do the same from
+//! bytes to memory that the caller lends. What is wrong with a text, an outline, a page count, a
+//! number of picks or marks is told as a [`Refusal`].
 //!
 //! ```
 //! use plates::{Outline, Tree, Way};
@@ -59,6 +62,7 @@
 #![deny(unsafe_op_in_unsafe_fn)]
 
 mod choice;
+mod house;
 mod newick;
 mod outline;
 mod quick;
@@ -69,6 +73,7 @@ mod tree;
 mod view;
 
 pub use choice::{choose, choose_in, Choice, Column, Way, Work, MOST_COUNT};
+pub use house::{compare, house_form};
 pub use newick::{Newick, MOST_TEXT_LEN};
 pub use outline::{Outline, Record, MOST_PLATE, MOST_RECORDS, MOST_TAXA, RECORD_BYTES};
 pub use quick::{QuickChoice, MOST_PICKS};

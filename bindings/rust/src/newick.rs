@@ -102,8 +102,9 @@ impl Outline {
     ///
     /// [`from_newick`](Outline::from_newick) accepts what is written. It gives back the same
     /// outline if the records are numbered as in the text, and so they are in every outline that was
-    /// read from text or made from a [`Tree`](crate::Tree). Otherwise it numbers them anew, and of
-    /// sets that are equal in diversity and cost another may then be the best.
+    /// read from text or made from a [`Tree`](crate::Tree), and in every
+    /// [house form](Outline::house_form). Otherwise it numbers them anew, and of sets that are equal
+    /// in diversity and cost another may then be the best.
     ///
     /// # Errors
     ///

@@ -83,6 +83,10 @@ impl Record {
 /// There are 1 to 127 records and at most 64 taxa. A link (next or first) that isn't 0 names a
 /// later record. The next of record 1 is 0, and each other record is named by exactly one link.
 ///
+/// Outlines are equal if their bytes are, so if their records are the same as they are numbered.
+/// [`is_same_tree`](Outline::is_same_tree) tells whether they are the same tree, in whatever order
+/// members and records stand.
+///
 /// ```
 /// use plates::{Outline, Refusal};
 ///

@@ -15,8 +15,8 @@ use std::fmt;
 /// Through the safe interface only some of them arise: the bytes of an [`Outline`](crate::Outline)
 /// are refused with numbers 2, 3 and 5 to 8, a text with 3, 5, 7, 8, 10 and 11, choosing with
 /// numbers 4 and 12, a quick choice with 4, 12 and 15, writing with 13, listing a sheet with 14.
-/// Number 9 is for those who lend the memory of a view, or call [`sys`](crate::sys), and number 1
-/// for the latter only.
+/// Number 9 is for those who lend the memory of a view or of a house form, or call
+/// [`sys`](crate::sys), and number 1 for the latter only.
 ///
 /// ```
 /// use plates::{Outline, Refusal};
@@ -61,7 +61,7 @@ pub enum Refusal {
         record: u32,
     },
     /// 9: marks, curve or work is too short, or the outline to read a text to, or the text or pairs
-    /// to write to, or the sheet, or the view.
+    /// to write to, or the sheet, or the view, or a house form.
     BufferTooShort,
     /// 10: the text is no tree in the form that
     /// [`Outline::from_newick`](crate::Outline::from_newick) reads, or has more than 16,384 bytes.
@@ -202,7 +202,7 @@ impl fmt::Display for Refusal {
             Refusal::TooManyTaxa => "the outline has more than 64 taxa",
             Refusal::DuplicatePlate { .. } => "an earlier taxon has the same plate",
             Refusal::BufferTooShort => {
-                "marks, curve, work, outline, text, pairs, sheet or view is too short"
+                "marks, curve, work, outline, text, pairs, sheet, view or house form is too short"
             }
             Refusal::BadText => "the text is no tree in Newick form, or has more than 16384 bytes",
             Refusal::BadPairs => {

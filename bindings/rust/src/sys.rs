@@ -6,10 +6,10 @@
 //! them, and what is written overlaps nothing else. Nothing else is asked of the caller, whatever
 //! the outline, the text or the marks hold. A refusal leaves the lent buffers (`marks`, `curve` and
 //! `work` of `plates_choose`, the `marks` of `plates_quick`, the `outline` of `plates_read`, the
-//! `text` and `pairs` of `plates_write`, the `sheet` of `plates_sheet`, and the `view` of
-//! `plates_view_house` and `plates_view_buyer`) as they were; `answer`, `place` and `ceiling` carry
-//! the numbers given and are written in any case. Every number but 0 is a refusal, and later
-//! versions add some.
+//! `text` and `pairs` of `plates_write`, the `sheet` of `plates_sheet`, the `view` of
+//! `plates_view_house` and `plates_view_buyer`, the `form` of `plates_house_form`, and both forms of
+//! `plates_compare`) as they were; `answer`, `place`, `ceiling` and `order` carry the numbers given
+//! and are written in any case. Every number but 0 is a refusal, and later versions add some.
 //!
 //! ```
 //! use plates::sys;
@@ -196,6 +196,48 @@ extern "C" {
         view: *mut u8,
         view_len: usize,
         answer: *mut u32,
+    ) -> u32;
+
+    /// Writes the house form of an outline: gives 0 or the refusal's number, and in any case writes
+    /// both numbers of `answer` (number, place). Unless it refuses, it also writes the house form to
+    /// the beginning of `form`, which needs as many bytes as the outline has.
+    ///
+    /// # Safety
+    ///
+    /// `outline` can be read for `outline_len` bytes. `form` and `answer` can be written for
+    /// `form_len` bytes and 2 numbers. None of the pointers is null, `answer` is aligned, and no two
+    /// of the three overlap.
+    pub fn plates_house_form(
+        outline: *const u8,
+        outline_len: usize,
+        form: *mut u8,
+        form_len: usize,
+        answer: *mut u32,
+    ) -> u32;
+
+    /// Compares two trees by their house forms: gives 0 or the refusal's number, and in any case
+    /// writes both numbers of `answer` (number, place) and `order`, which is 0 on a refusal and for
+    /// the same tree, -1 if the first tree comes before the second, and 1 if it comes after. Unless
+    /// it refuses, it also writes the house forms to the beginnings of `form_a` and `form_b`, which
+    /// need as many bytes as `a` and `b` have.
+    ///
+    /// # Safety
+    ///
+    /// `a` and `b` can be read for `a_len` and `b_len` bytes. `form_a`, `form_b`, `answer` and
+    /// `order` can be written for `form_a_len` bytes, `form_b_len` bytes, 2 numbers and one. None of
+    /// the pointers is null, each is aligned for its elements, and none of the last four overlaps
+    /// another or what is read. `a` and `b` may overlap.
+    pub fn plates_compare(
+        a: *const u8,
+        a_len: usize,
+        b: *const u8,
+        b_len: usize,
+        form_a: *mut u8,
+        form_a_len: usize,
+        form_b: *mut u8,
+        form_b_len: usize,
+        answer: *mut u32,
+        order: *mut i32,
     ) -> u32;
 }
 

@@ -1,8 +1,14 @@
 -- The demands of calls of the C functions, and what is promised of several of them, `plates_write` and `plates_read`, `plates_choose` and
--- `plates_quick` or `plates_sheet`, `plates_quick` and `plates_view_buyer` twice: what is promised of the functions behind them, of the numbers that stand in `answer`.
+-- `plates_quick` or `plates_sheet`, `plates_quick`, `plates_view_buyer` and `plates_house_form` twice, `plates_compare` up to three times: what
+-- is promised of the functions behind them, of the numbers that stand in `answer`.
 use Prim.Native.Nat.{ℕ, ◌≤◌}
-use mathlib.Core.Path.{◌≡◌, sym, ap, ◌∙◌}
+use mathlib.Core.Path.{◌≡◌, refl, sym, ap, ◌∙◌}
+use mathlib.Core.Logic.{◌⊎◌, ◌↔◌}
 use mathlib.Core.List.{List}
+use Rattle.std.specs.Prelude.{ℤ, pos, neg_ℤ}
+use Rattle.std.specs.Ordering.{int_cmp, ordering_reverse}
+use Rattle.std.specs.declared.cmp.Ordering.{Ordering}
+use Rattle.std.specs.declared.cmp.Ordering.TheVariants.{Less, Equal, Greater}
 use lib.ListN.{length}
 use Rattle.diversity.specs.Order.{InTextOrder}
 use Rattle.reading.specs.Answer as read
@@ -21,13 +27,25 @@ use Rattle.sheet.proofs.Demands.{demand_1 as sheet_decided, choice_listed}
 use Rattle.quick.specs.Answer as quick
 use Rattle.quick.specs.Demands as quicks
 use Rattle.quick.proofs.Demands.{demand_1 as quick_decided, true_choice, picks_made, best_between, more_picks}
+use Rattle.canonical.specs.SameTree.{SameTree}
+use Rattle.house.specs.Answer as house
+use Rattle.house.specs.Compared as compare
+use Rattle.house.specs.Demands as houses
+use Rattle.house.proofs.Demands.{demand_1 as form_decided, form_given, forms_equal, form_again, compare_demand_1, forms_given, told_same, order_turned, one_not_after, same_if_neither_after, order_onward}
+use Rattle.house.proofs.Texts.{form_read_back, one_text, text_tells}
 use Rattle.refusals.specs.Refusals.{Ruling}
 use Rattle.refusals.specs.Reply.{granted}
 use Rattle.view.specs.Answer as view
 use Rattle.view.specs.Demands.{ShownOrRefused, BuyersCalls, ViewSuffices, SameBytes}
 use Rattle.view.specs.View.{buyer_view}
 use Rattle.view.proofs.Demands.{demand_1 as view_decided, buyers_alike, buyers_alike_whole}
-use Rattle.plates.specs.Interface.{chosen_in, Chosen, quickly_chosen_in, QuicklyChosen, listed_in, SheetListed, read_in, TextRead, written_in, TextWritten, ruling_in, Viewed}
+use Rattle.plates.specs.Interface.{chosen_in, Chosen, quickly_chosen_in, QuicklyChosen, listed_in, SheetListed, read_in, TextRead, written_in, TextWritten, ruling_in, Viewed, Formed, order_number, compared_in, TreesCompared}
+
+-- the number of an order that is turned round
+negated : (o : Ordering) → order_number (ordering_reverse o) ≡ neg_ℤ (order_number o)
+negated Less = refl
+negated Equal = refl
+negated Greater = refl
 
 -- each call is given what its table gives, and choosing is true of the marks and finds what the exhaustive search finds
 module _ {c : choose.Call} {n : ℕ} {answer marks curve work : List ℕ} (x : Chosen c n answer marks curve work) where
@@ -119,3 +137,95 @@ module _ {c d : view.Call} {n m : ℕ} {answer answer' lent lent' : List ℕ} (b
   buyers_shown_whole e =
       let same = buyers_alike_whole both x.answered y.answered e in
       (x.number_given ∙ ap (λ (t : Ruling). t.number) same.0 ∙ sym y.number_given, same.0, same.1)
+
+-- what `plates_house_form` writes is accepted, the same tree, and keeps both rules
+module _ {c : house.Call} {n : ℕ} {answer form : List ℕ} (x : Formed c n answer form) where
+  pub formed_decided : houses.FormedOrRefused c (ruling_in answer) form
+  formed_decided = form_decided c x.answered
+
+  module _ (z : n ≡ 0) where
+    told : (ruling_in answer).number ≡ 0
+    told = sym x.number_given ∙ z
+
+    pub formed_given : houses.FormGiven c form
+    formed_given = form_given c x.answered told
+
+    -- a second call on it leaves the same bytes
+    pub formed_again : {d : house.Call} {m : ℕ} {answer' form' : List ℕ} → houses.HandedForm c form d → houses.FormSuffices d
+        → Formed d m answer' form' → (m ≡ 0) × (houses.form_bytes d form' ≡ houses.form_bytes c form)
+    formed_again h long y =
+        let (told, same) = form_again x.answered told h long y.answered in
+        (y.number_given ∙ ap (λ (t : Ruling). t.number) told, same)
+
+    -- what `plates_write` writes of it, read back by `plates_read`, is it again
+    pub formed_read : {w : write.Call} {d : read.Call} {m k : ℕ} {answer' text pairs answer'' outline : List ℕ} → houses.HandedToWrite c form w
+        → TextWritten w m answer' text pairs → m ≡ 0 → Handed (written_in answer') text pairs d → length w.outline ≤ length d.outline
+        → TextRead d k answer'' outline → GivenBack (houses.form_bytes c form) d (read_in answer'') outline
+    formed_read h y e k long p = form_read_back x.answered told h y.answered (sym y.number_given ∙ e) k long p.answered
+
+    -- two calls leave equal bytes exactly if their outlines are the same tree
+    module _ {d : house.Call} {m : ℕ} {answer' form' : List ℕ} (y : Formed d m answer' form') (e : m ≡ 0) where
+      pub formed_equal : SameTree c.outline d.outline ↔ (houses.form_bytes c form ≡ houses.form_bytes d form')
+      formed_equal = forms_equal x.answered told y.answered (sym y.number_given ∙ e)
+
+      -- and of one tree one text is written
+      pub formed_text : SameTree c.outline d.outline → {v w : write.Call} {k l : ℕ} {one two text pairs text' pairs' : List ℕ}
+          → houses.HandedToWrite c form v → TextWritten v k one text pairs → k ≡ 0
+          → houses.HandedToWrite d form' w → TextWritten w l two text' pairs' → l ≡ 0
+          → WroteAlike (written_in one) text pairs (written_in two) text' pairs'
+      formed_text tree h p i g q j =
+          one_text x.answered told y.answered (sym y.number_given ∙ e) tree h p.answered (sym p.number_given ∙ i) g q.answered
+          (sym q.number_given ∙ j)
+
+      -- and one text is that of one tree: a call of `plates_read` with room for either tells so
+      pub formed_tells : {v w : write.Call} {k l : ℕ} {one two text pairs text' pairs' : List ℕ}
+          → houses.HandedToWrite c form v → TextWritten v k one text pairs → k ≡ 0
+          → houses.HandedToWrite d form' w → TextWritten w l two text' pairs' → l ≡ 0
+          → WroteAlike (written_in one) text pairs (written_in two) text' pairs'
+          → {b : read.Call} {i : ℕ} {answer'' outline : List ℕ} → Handed (written_in one) text pairs b → length v.outline ≤ length b.outline
+          → length w.outline ≤ length b.outline → TextRead b i answer'' outline → SameTree c.outline d.outline
+      formed_tells h p i g q j alike given long also r =
+          text_tells x.answered told y.answered (sym y.number_given ∙ e) h p.answered (sym p.number_given ∙ i) g q.answered
+          (sym q.number_given ∙ j) alike given long also r.answered
+
+-- `plates_compare`: the order is 0 exactly of the same tree, is turned round where the outlines are, and is a total order
+module _ {c : compare.Call} {n : ℕ} {answer : List ℕ} {order : ℤ} {a b : List ℕ} (x : TreesCompared c n answer order a b) where
+  pub compared_decided : houses.ComparedOrRefused c (compared_in order answer) a b
+  compared_decided = compare_demand_1 c x.given.answered
+
+  module _ (z : n ≡ 0) where
+    compare_told : (compared_in order answer).number ≡ 0
+    compare_told = sym x.given.number_given ∙ z
+
+    pub compared_given : houses.FormsGiven c a b
+    compared_given = forms_given c x.given.answered compare_told
+
+    pub compared_same : SameTree c.first c.second ↔ (order ≡ pos 0)
+    compared_same =
+        let exactly = told_same c x.given.answered compare_told in (
+          λ s. x.order_given ∙ ap order_number (exactly.0 s),
+          λ e. exactly.1 (ap (λ (k : ℤ). int_cmp k (pos 0)) e),
+        )
+
+    module _ {d : compare.Call} {m : ℕ} {answer' : List ℕ} {order' : ℤ} {a' b' : List ℕ} (y : TreesCompared d m answer' order' a' b') (e : m ≡ 0) where
+      pub compared_turned : houses.TurnedRound c d → order' ≡ neg_ℤ order
+      compared_turned turned =
+          let back = order_turned turned x.given.answered compare_told y.given.answered (sym y.given.number_given ∙ e) in
+          y.order_given ∙ ap order_number back ∙ negated (int_cmp order (pos 0)) ∙ ap neg_ℤ (sym x.order_given)
+
+      -- one of the two is not after the other, and if neither is, they are the same
+      pub compared_either : houses.TurnedRound c d → houses.NotAfter (int_cmp order (pos 0)) ⊎ houses.NotAfter (int_cmp order' (pos 0))
+      compared_either turned = one_not_after turned x.given.answered compare_told y.given.answered (sym y.given.number_given ∙ e)
+
+      pub compared_neither : houses.TurnedRound c d → houses.NotAfter (int_cmp order (pos 0)) → houses.NotAfter (int_cmp order' (pos 0))
+          → SameTree c.first c.second
+      compared_neither turned =
+          same_if_neither_after turned x.given.answered compare_told y.given.answered (sym y.given.number_given ∙ e)
+
+      -- what is not after what is not after a third is not after the third
+      pub compared_onward : {f : compare.Call} {k : ℕ} {answer'' : List ℕ} {order'' : ℤ} {a'' b'' : List ℕ} → houses.InTurn c d f
+          → TreesCompared f k answer'' order'' a'' b'' → k ≡ 0
+          → houses.NotAfter (int_cmp order (pos 0)) → houses.NotAfter (int_cmp order' (pos 0)) → houses.NotAfter (int_cmp order'' (pos 0))
+      compared_onward turn v i h k =
+          order_onward turn x.given.answered compare_told y.given.answered (sym y.given.number_given ∙ e) v.given.answered
+          (sym v.given.number_given ∙ i) h k

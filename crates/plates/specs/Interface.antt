@@ -1,5 +1,8 @@
 -- What the C interface gives: the numbers that are returned and written, and what is left in the memory that was lent.
-use Rattle.std.specs.Prelude.{ℕ, ◌≡◌, List, length, get_or}
+use Rattle.std.specs.Prelude.{ℕ, ℤ, pos, negsuc, ◌≡◌, List, length, get_or}
+use Rattle.std.specs.Ordering.{int_cmp}
+use Rattle.std.specs.declared.cmp.Ordering.{Ordering}
+use Rattle.std.specs.declared.cmp.Ordering.TheVariants.{Less, Equal, Greater}
 use Rattle.choice.specs.Answer as choose
 use Rattle.choice.specs.declared.answer.Figures.{Figures as ChoiceFigures}
 use Rattle.quick.specs.Answer as quick
@@ -10,6 +13,8 @@ use Rattle.writing.specs.Answer as write
 use Rattle.writing.specs.declared.answer.Figures.{Figures as WritingFigures}
 use Rattle.refusals.specs.Refusals.{Ruling, ruling}
 use Rattle.refusals.specs.Reply.{Reply}
+use Rattle.house.specs.Answer as house
+use Rattle.house.specs.Compared as compare
 use Rattle.sheet.specs.Answer as sheet
 use Rattle.sheet.specs.declared.answer.Figures.{Figures as SheetFigures}
 use Rattle.view.specs.Answer as view
@@ -74,3 +79,22 @@ ruling_in answer = ruling (get_or answer 0 0) (get_or answer 1 0)
 -- a call is answered by them as `view_house` answers it, where what is shown is `house_view`, and as `view_buyer`, where it is `buyer_view`
 abbrev pub Viewed : (List ℕ → List ℕ) → view.Call → ℕ → List ℕ → List ℕ → Type 0
 Viewed shown c number answer lent = Given 2 ruling_in (λ t. view.Answered shown c t lent) number answer
+
+-- a call is answered by the two numbers of a house form as `house_form` answers it
+abbrev pub Formed : house.Call → ℕ → List ℕ → List ℕ → Type 0
+Formed c number answer form = Given 2 ruling_in (λ t. house.Answered c t form) number answer
+
+-- the number of an order: -1 before, 0 the same, 1 after
+abbrev pub order_number : Ordering → ℤ
+order_number Less = negsuc 0
+order_number Equal = pos 0
+order_number Greater = pos 1
+
+-- the two numbers of comparing, with the order that is written beside them: it goes by the sign
+abbrev pub compared_in : ℤ → List ℕ → Reply Ordering
+compared_in order answer = reply_in answer (int_cmp order (pos 0))
+
+-- a call is answered by them as `compare` answers it, and the order is a number of one
+pub record TreesCompared (c : compare.Call) (number : ℕ) (answer : List ℕ) (order : ℤ) (first_form second_form : List ℕ) : Type 0 where
+  pub given : Given 2 (compared_in order) (λ r. compare.Answered c r first_form second_form) number answer
+  pub order_given : order ≡ order_number (int_cmp order (pos 0))

@@ -1,6 +1,6 @@
 // The C interface: checking an outline, finding a plate's record, choosing, choosing quickly, listing a marked set, reading a tree from
-// text, writing it as text, and showing an outline to a house reader and to a buyer's, over memory that the caller lends.
-// include/plates.h declares these functions.
+// text, writing it as text, showing an outline to a house reader and to a buyer's, writing the house form of a tree and comparing two, over
+// memory that the caller lends. include/plates.h declares these functions.
 #![tactic(auto)]
 
 ghost use Rattle.std.specs.Prelude.{◌≡◌, ◌≤◌, ◌-◌, ◌∷◌, length, replicate};
@@ -11,17 +11,21 @@ ghost use Rattle.writing.specs.Answer.{call as writing};
 ghost use Rattle.choice.specs.Answer.{call};
 ghost use Rattle.quick.specs.Answer.{call as picking};
 ghost use Rattle.sheet.specs.Answer.{call as listing};
+ghost use Rattle.house.specs.Answer.{call as forming};
+ghost use Rattle.house.specs.Compared.{call as comparing};
 ghost use Rattle.view.specs.Answer.{call as viewing};
 ghost use Rattle.view.specs.View.{house_view, buyer_view};
-ghost use Rattle.plates.specs.Interface.{Chosen, QuicklyChosen, SheetListed, TextRead, TextWritten, Viewed};
+ghost use Rattle.plates.specs.Interface.{Chosen, QuicklyChosen, SheetListed, TextRead, TextWritten, Viewed, Formed, order_number, TreesCompared};
 ghost use Rattle.outline.specs.Rules.{most_records};
 
 use choice::choose;
+use house::{compare, house_form};
 use outline::{check, find_record};
 use quick::quick;
 use reading::read;
 use refusals::Refusal;
 use sheet::sheet as list;
+use std::cmp::Ordering;
 use view::{view_buyer, view_house};
 use writing::write;
 
@@ -206,5 +210,57 @@ pub extern "C" fn plates_view_buyer(outline: &[u8], view: &mut [u8], answer: &mu
             0
         }
         Err(refusal) => refuse(refusal, answer),
+    }
+}
+
+// Writes the house form of an outline, and writes number and place; the number is given as well.
+#[unsafe(no_mangle)]
+pub extern "C" fn plates_house_form(outline: &[u8], form: &mut [u8], answer: &mut [u32; 2]) -> u32
+    ensures { Formed (forming outline.now form.old) result answer.new form.new }
+{
+    match house_form(outline, form) {
+        Ok(()) => {
+            *answer = [0, 0];
+            0
+        }
+        Err(refusal) => refuse(refusal, answer),
+    }
+}
+
+// The number of an order, as C compares.
+fn order_number(order: Ordering) -> i32
+    ensures { result ≡ order_number order }
+{
+    match order {
+        Ordering::Less => -1,
+        Ordering::Equal => 0,
+        Ordering::Greater => 1,
+    }
+}
+
+// Compares two trees by their house forms, and writes number and place, and beside them the order, 0 on a refusal; the number is given as well.
+#[unsafe(no_mangle)]
+pub extern "C" fn plates_compare(
+    a: &[u8],
+    b: &[u8],
+    form_a: &mut [u8],
+    form_b: &mut [u8],
+    answer: &mut [u32; 2],
+    order: &mut i32,
+) -> u32
+    ensures { TreesCompared
+        (comparing a.now b.now form_a.old form_b.old)
+        result answer.new order.new form_a.new form_b.new }
+{
+    match compare(a, b, form_a, form_b) {
+        Ok(found) => {
+            *order = order_number(found);
+            *answer = [0, 0];
+            0
+        }
+        Err(refusal) => {
+            *order = 0;
+            refuse(refusal, answer)
+        }
     }
 }

@@ -1,6 +1,6 @@
 //! Trees, bytes and numbers that several tests use.
 
-use plates::{Choice, Outline, Record, Tree, Way};
+use plates::{Choice, Outline, Record, Refusal, Tree, Way, MOST_RECORDS};
 use std::iter::successors;
 
 pub const WAYS: [Way; 2] = [Way::Rooted, Way::Unrooted];
@@ -142,6 +142,31 @@ pub fn outlines() -> [Outline; 9] {
         sound(locked_a(0, 0, &[13])),
         sound(locked_a(1, 2, &[11, 13])),
         outline(&INTERLEAVED),
+    ]
+}
+
+/// Outlines that are refused, each for one reason.
+pub fn faulty() -> [(Vec<u8>, Refusal); 12] {
+    let field = |record| Refusal::FieldOutOfRange { record };
+    [
+        (bytes(&[]), Refusal::PartialRecord),
+        (bytes(&TREE_A)[1..].to_vec(), Refusal::PartialRecord),
+        (bytes(&[[0; 5]; MOST_RECORDS + 1]), Refusal::TooManyRecords),
+        (bytes(&changed(4, 2, 1_000_001)), field(4)),
+        (bytes(&changed(2, 3, 65_536)), field(2)),
+        (bytes(&changed(2, 4, LOCK)), field(2)),
+        (bytes(&changed(5, 4, LOCK)), field(5)),
+        (bytes(&changed(3, 0, 6)), Refusal::BadLink { record: 3 }),
+        (bytes(&changed(4, 0, 5)), Refusal::BadLink { record: 5 }),
+        (bytes(&star_records(65)), Refusal::TooManyTaxa),
+        (
+            bytes(&changed(5, 4, 11)),
+            Refusal::DuplicatePlate { record: 5 },
+        ),
+        (
+            bytes(&changed(4, 4, LOCK | 11)),
+            Refusal::DuplicatePlate { record: 4 },
+        ),
     ]
 }
 

@@ -1,10 +1,10 @@
 //! What readers get: a house reader all of an outline, a buyer's reader no prices and no locks,
 //! whatever these were; the refusals, and the buffers.
 
-use crate::support::{bytes, changed, headed_a, locked_a, outline, outlines, plates, sound};
-use crate::support::{star_records, tree_a, Draw, Fields, LOCK, TREE_A, WAYS};
+use crate::support::{bytes, changed, faulty, headed_a, locked_a, outline, outlines, plates};
+use crate::support::{sound, star_records, tree_a, Draw, Fields, LOCK, TREE_A, WAYS};
 use plates::{sys, view_buyer, view_house, Outline, Record, Refusal};
-use plates::{MOST_PLATE, MOST_RECORDS, RECORD_BYTES};
+use plates::{MOST_PLATE, RECORD_BYTES};
 
 /// Tree A as a buyer's reader gets it.
 const BUYERS_A: [Fields; 5] = [
@@ -216,7 +216,7 @@ fn views_too_short_are_refused_and_untouched() {
     }
     assert_eq!(
         Refusal::BufferTooShort.to_string(),
-        "marks, curve, work, outline, text, pairs, sheet or view is too short"
+        "marks, curve, work, outline, text, pairs, sheet, view or house form is too short"
     );
 }
 
@@ -230,31 +230,6 @@ fn longer_views_keep_the_rest() {
             assert_eq!(view[80..], vec![BEFORE; more]);
         }
     }
-}
-
-/// Outlines that are refused, each for one reason.
-fn faulty() -> [(Vec<u8>, Refusal); 12] {
-    let field = |record| Refusal::FieldOutOfRange { record };
-    [
-        (bytes(&[]), Refusal::PartialRecord),
-        (bytes(&TREE_A)[1..].to_vec(), Refusal::PartialRecord),
-        (bytes(&[[0; 5]; MOST_RECORDS + 1]), Refusal::TooManyRecords),
-        (bytes(&changed(4, 2, 1_000_001)), field(4)),
-        (bytes(&changed(2, 3, 65_536)), field(2)),
-        (bytes(&changed(2, 4, LOCK)), field(2)),
-        (bytes(&changed(5, 4, LOCK)), field(5)),
-        (bytes(&changed(3, 0, 6)), Refusal::BadLink { record: 3 }),
-        (bytes(&changed(4, 0, 5)), Refusal::BadLink { record: 5 }),
-        (bytes(&star_records(65)), Refusal::TooManyTaxa),
-        (
-            bytes(&changed(5, 4, 11)),
-            Refusal::DuplicatePlate { record: 5 },
-        ),
-        (
-            bytes(&changed(4, 4, LOCK | 11)),
-            Refusal::DuplicatePlate { record: 4 },
-        ),
-    ]
 }
 
 #[test]
