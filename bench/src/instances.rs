@@ -1,7 +1,7 @@
 //! The outlines that are measured: shapes with branch lengths and prices drawn from a fixed seed, and case G.
 
 use plates_scale::headings;
-use plates_scale::outline::Record;
+use plates_scale::outline::{groups, members, Record};
 use plates_scale::random::Random;
 use plates_scale::shapes;
 
@@ -64,7 +64,7 @@ pub fn sizes() -> Vec<Instance> {
     list
 }
 
-fn random(taxa: usize, seed: u64) -> Vec<Record> {
+pub fn random(taxa: usize, seed: u64) -> Vec<Record> {
     shapes::random_tree(taxa, &mut Random::new(seed))
 }
 
@@ -111,4 +111,45 @@ fn case_g() -> Instance {
         records,
         count: COUNT - 1,
     }
+}
+
+/// The same tree with its members in another order, and with its records numbered in any order in which links go to later ones.
+pub fn shuffled(records: &[Record], random: &mut Random) -> Vec<Record> {
+    let mut linked = records.to_vec();
+    for group in groups(records) {
+        let mut chain = members(records, group);
+        random.shuffle(&mut chain);
+        link(&mut linked, group, &chain);
+    }
+    renumbered(&linked, random)
+}
+
+/// Makes a chain of the members, given by their positions.
+fn link(records: &mut [Record], group: usize, chain: &[usize]) {
+    let mut next = 0;
+    for &member in chain.iter().rev() {
+        records[member].next = next;
+        next = member as u16 + 1;
+    }
+    records[group].first = next;
+}
+
+fn renumbered(records: &[Record], random: &mut Random) -> Vec<Record> {
+    // The new numbers by the old ones; 0 is no record.
+    let mut numbers = vec![0; records.len() + 1];
+    let mut order = Vec::with_capacity(records.len());
+    let mut ready = vec![1];
+    while !ready.is_empty() {
+        let number = usize::from(ready.swap_remove(random.index(ready.len())));
+        let record = records[number - 1];
+        order.push(record);
+        numbers[number] = order.len() as u16;
+        let links = [record.next, record.first];
+        ready.extend(links.into_iter().filter(|&link| link != 0));
+    }
+    for record in &mut order {
+        record.next = numbers[usize::from(record.next)];
+        record.first = numbers[usize::from(record.first)];
+    }
+    order
 }

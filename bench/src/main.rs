@@ -1,7 +1,8 @@
 //! Measures `plates_choose` beside clearing `work`, IQ-TREE 2, GLPK and two tables in Rust, `plates_read`, `plates_write`,
-//! `plates_sheet` and both views beside a plain reader, writer, lister and viewer in Rust, and `plates_quick` beside a plain picker
-//! and `plates_choose`, and prints the times in Markdown. With `--picks` it measures only the last of these, and with `--beside`
-//! `plates_choose` beside another build's instead, to see what a change costs.
+//! `plates_sheet` and both views beside a plain reader, writer, lister and viewer in Rust, `plates_quick` beside a plain picker and
+//! `plates_choose`, and `plates_house_form` and `plates_compare` beside a plain sorter, and prints the times in Markdown. With
+//! `--picks` it measures only the quick choices, with `--houses` only the house forms, and with `--beside` `plates_choose` beside
+//! another build's instead, to see what a change costs.
 
 mod beside;
 mod case;
@@ -18,6 +19,8 @@ mod reader;
 mod reading;
 mod report;
 mod scratch;
+mod sorter;
+mod sorting;
 mod times;
 mod tree;
 mod viewer;
@@ -29,19 +32,21 @@ use beside::Build;
 use case::{Buffers, Case};
 use instances::COUNT;
 use listing::Listing;
-use picking::{Agreement, Picking};
+use picking::Picking;
 use reading::Reading;
 use report::Missing;
 use scratch::Scratch;
+use sorting::Sorting;
 use std::path::Path;
 use std::process::ExitCode;
 use viewing::Viewing;
 use writing::Writing;
 
 const USAGE: &str = "\
-bench [--quick | --picks | --beside OTHER THIS]
+bench [--quick | --picks | --houses | --beside OTHER THIS]
   --quick              fewer runs, without GLPK and the tables
   --picks              only plates_quick beside a plain picker and plates_choose
+  --houses             only plates_house_form and plates_compare beside a plain sorter
   --beside OTHER THIS  only plates_choose of two builds, OTHER and THIS being shared objects;
                        `make bench-beside BESIDE=libplates.a` makes them of static libraries and runs this";
 const RECORDS: usize = 127;
@@ -71,6 +76,7 @@ fn main() -> ExitCode {
         [] => run(&Plan::new(false)),
         ["--quick"] => run(&Plan::new(true)),
         ["--picks"] => run_picks(&Plan::new(false)),
+        ["--houses"] => run_houses(&Plan::new(false)),
         ["--beside", other, this] => run_beside(Path::new(other), Path::new(this)),
         _ => {
             eprintln!("{USAGE}");
@@ -92,8 +98,9 @@ fn run(plan: &Plan) -> Result<(), String> {
     println!("GLPK: {}\n", machine::version(glpk::PROGRAM, "--version"));
     let scratch = Scratch::new().map_err(|error| error.to_string())?;
     let mut buffers = Buffers::new(RECORDS, COUNT);
-    // First, since a difference there ends the benchmark.
+    // First, since a difference in these ends the benchmark.
     let (pickings, picked) = pickings(plan, &mut buffers)?;
+    let (sortings, sorted) = sortings(plan)?;
     let mut groups = groups();
     let mut sizes = size_cases();
     let all = groups.iter_mut().flatten().chain(&mut sizes);
@@ -114,6 +121,7 @@ fn run(plan: &Plan) -> Result<(), String> {
     report::listings(&listings);
     report::viewings(&viewings, agreement);
     report::pickings(&pickings, &picked);
+    report::sortings(&sortings, &sorted);
     Ok(())
 }
 
@@ -121,6 +129,13 @@ fn run_picks(plan: &Plan) -> Result<(), String> {
     println!("Machine: {}\n", machine::description());
     let (pickings, picked) = pickings(plan, &mut Buffers::new(RECORDS, COUNT))?;
     report::pickings(&pickings, &picked);
+    Ok(())
+}
+
+fn run_houses(plan: &Plan) -> Result<(), String> {
+    println!("Machine: {}\n", machine::description());
+    let (sortings, sorted) = sortings(plan)?;
+    report::sortings(&sortings, &sorted);
     Ok(())
 }
 
@@ -181,7 +196,10 @@ fn measure(
 }
 
 /// The pickings with their times, and what was compared before.
-fn pickings(plan: &Plan, buffers: &mut Buffers) -> Result<(Vec<Picking>, Agreement), String> {
+fn pickings(
+    plan: &Plan,
+    buffers: &mut Buffers,
+) -> Result<(Vec<Picking>, picking::Agreement), String> {
     let all = picking::all();
     let agreement = picking::agreement(&all, buffers)?;
     let all = measured(plan, all, Picking::measure);
@@ -189,7 +207,14 @@ fn pickings(plan: &Plan, buffers: &mut Buffers) -> Result<(Vec<Picking>, Agreeme
     Ok((all, agreement))
 }
 
-/// The readings, the writings, the listings, the viewings or the pickings, with their times.
+/// The sortings with their times, and what was compared before.
+fn sortings(plan: &Plan) -> Result<(Vec<Sorting>, sorting::Agreement), String> {
+    let all = sorting::all();
+    let agreement = sorting::agreement(&all)?;
+    Ok((measured(plan, all, Sorting::measure), agreement))
+}
+
+/// The readings, the writings, the listings, the viewings, the pickings or the sortings, with their times.
 fn measured<T>(plan: &Plan, mut all: Vec<T>, mut measure: impl FnMut(&mut T)) -> Vec<T> {
     for _ in 0..plan.rounds {
         for one in &mut all {

@@ -4,8 +4,9 @@ use crate::beside::Pair;
 use crate::case::Case;
 use crate::glpk;
 use crate::listing::{self, Listing};
-use crate::picking::{Agreement, Picking};
+use crate::picking::{self, Picking};
 use crate::reading::{self, Reading};
+use crate::sorting::{self, Sorting};
 use crate::times::{digits, microseconds, milliseconds, Times};
 use crate::viewing::Viewing;
 use crate::writing::{self, Writing};
@@ -79,6 +80,18 @@ of the outline is that of plates, whose median by itself is the last column. The
 marks were compared. `plates_choose`, rooted and with the same count, is called in rounds of its own, since it clears up to 17 MB.
 Ratios are those of the medians. The outlines are those of the first table; with \"all fit\" the prices are a fourth, so that all taxa
 together fit the count. \"taxa\" says how many are picked.
+";
+
+const SORTING: &str = "\
+Medians in microseconds. The plain sorter is Rust and allocates nothing. It goes over the records once from the last to the first, for
+the smallest plate at or below each and how many records that are, and once from the first to the last, sorts the members of each
+group and writes each record where it comes to stand; it gives the same refusals, but the check of an outline is that of plates, whose
+time by itself is the last column. All are called in turn, after their answers, house forms and orders were compared; \"times\" says
+how many times as long plates takes. Each outline is compared with another one of its tree, with the members shuffled and the records
+numbered anew: both are checked, and every byte of both forms is looked at. Plates are in random order, or in that of the records
+(ascending: the outline is its own house form), or in the opposite one. The random trees, the balanced one, the caterpillars and the
+star are shaped as in the first table. A star of groups has 64 members under the root too, 62 of them groups of one taxon. The last
+calls are refused with 9.
 ";
 
 const BUILDS: &str = "\
@@ -408,18 +421,25 @@ pub fn viewings(viewings: &[Viewing], agreement: [usize; 2]) {
 }
 
 fn viewing_row(viewing: &Viewing) -> Vec<String> {
-    let in_microseconds = |time: Option<f64>| time.map_or(String::new(), microseconds);
     let mut row = vec![viewing.name.clone(), viewing.records.to_string()];
-    for [plates, plain] in &viewing.times {
-        let times = [plates.median(), plain.median()];
-        row.extend(times.map(in_microseconds));
-        row.push(ratio(times[0], times[1]));
-    }
-    row.push(in_microseconds(viewing.check.median()));
+    row.extend(two_calls(&viewing.times, &viewing.check));
     row
 }
 
-pub fn pickings(pickings: &[Picking], agreement: &Agreement) {
+/// For each of two calls the medians of plates and of the plain program and their ratio, then the check's median.
+fn two_calls(times: &[[Times; 2]; 2], check: &Times) -> Vec<String> {
+    let in_microseconds = |time: Option<f64>| time.map_or(String::new(), microseconds);
+    let mut cells = Vec::new();
+    for [plates, plain] in times {
+        let times = [plates.median(), plain.median()];
+        cells.extend(times.map(in_microseconds));
+        cells.push(ratio(times[0], times[1]));
+    }
+    cells.push(in_microseconds(check.median()));
+    cells
+}
+
+pub fn pickings(pickings: &[Picking], agreement: &picking::Agreement) {
     println!("### Quick choices\n\n{PICKING}");
     let head = words([
         "outline",
@@ -467,6 +487,33 @@ fn picking_row(picking: &Picking) -> Vec<String> {
     row.extend([choosing.shortest(), choosing.median()].map(in_microseconds));
     row.push(ratio(choosing.median(), times[1]));
     row.push(in_microseconds(picking.check.median()));
+    row
+}
+
+pub fn sortings(sortings: &[Sorting], agreement: &sorting::Agreement) {
+    println!("### House forms\n\n{SORTING}");
+    let head = words([
+        "outline",
+        "records",
+        "house form: plates",
+        "plain sorter",
+        "times",
+        "compare: plates",
+        "plain sorter",
+        "times",
+        "check",
+    ]);
+    let rows: Vec<_> = sortings.iter().map(sorting_row).collect();
+    print_table(&head, &rows);
+    print_agreement("plain sorter", [agreement.answers, 0]);
+    let [before, same, after] = agreement.orders;
+    println!("Pairs whose first tree comes before the other: {before}, is the same: {same}, comes after it: {after}.\n");
+}
+
+fn sorting_row(sorting: &Sorting) -> Vec<String> {
+    let name = sorting.name.to_string();
+    let mut row = vec![name, sorting.records.to_string()];
+    row.extend(two_calls(&sorting.times, &sorting.check));
     row
 }
 

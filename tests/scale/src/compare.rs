@@ -1,15 +1,18 @@
 //! The comparison of what was expected of a call with what was observed.
 
+use crate::comparing::CompareExpected;
 use crate::expect::Expected;
+use crate::form::{ascends, least_plates, FormExpected};
 use crate::frame::difference;
 use crate::library::{
-    CheckObserved, ChooseObserved, FindObserved, QuickObserved, ReadObserved, SheetObserved,
-    ViewObserved, WriteObserved,
+    CheckObserved, ChooseObserved, CompareObserved, FindObserved, FormObserved, QuickObserved,
+    ReadObserved, SheetObserved, ViewObserved, WriteObserved,
 };
-use crate::outline::{self, Record, LOCK};
+use crate::outline::{self, is_preorder, Record, LOCK};
 use crate::quick::QuickExpected;
 use crate::reading::ReadExpected;
-use crate::rules::Refusal;
+use crate::rules::{self, Refusal};
+use crate::same_tree::are_same;
 use crate::sheet::SheetExpected;
 use crate::view::ViewExpected;
 use crate::writing::WriteExpected;
@@ -262,16 +265,79 @@ pub fn more_picks(fewer: &QuickObserved, more: &QuickObserved, records: usize) -
     differences
 }
 
+pub fn form(expected: &FormExpected, observed: &FormObserved) -> Comparison {
+    let (before, after) = (&observed.before, &observed.after);
+    let differences = [
+        returned(expected.answer[0], observed.returned),
+        difference("answer", &before.answer, &after.answer, &expected.answer),
+        difference("outline", &before.outline, &after.outline, &[]),
+        difference("form", &before.form, &after.form, &expected.form),
+    ];
+    let values = 1 + after.answer.cells.len() + after.outline.cells.len() + after.form.cells.len();
+    Comparison {
+        differences: differences.into_iter().flatten().collect(),
+        values,
+    }
+}
+
+/// What of a form, read record by record, is not as it is to be in a house form of an accepted outline.
+pub fn in_house_form(records: &[Record], form: &[u8]) -> Vec<String> {
+    if let Some(refusal) = rules::check(form) {
+        return vec![format!("form: refused, {refusal:?}")];
+    }
+    let written = outline::records(form);
+    let wrong = [
+        (!is_preorder(&written), "not in text order"),
+        (
+            !ascends(&written, &least_plates(&written)),
+            "a chain does not ascend",
+        ),
+        (!are_same(records, &written), "not the same tree"),
+    ];
+    let wrong = wrong.into_iter().filter(|(holds, _)| *holds);
+    wrong.map(|(_, what)| format!("form: {what}")).collect()
+}
+
+pub fn trees(expected: &CompareExpected, observed: &CompareObserved) -> Comparison {
+    let (before, after) = (&observed.before, &observed.after);
+    let ([one, other], [one_after, other_after]) = (&before.outlines, &after.outlines);
+    let ([form, other_form], [form_after, other_form_after]) = (&before.forms, &after.forms);
+    let differences = [
+        returned(expected.answer[0], observed.returned),
+        difference("answer", &before.answer, &after.answer, &expected.answer),
+        difference("order", &before.order, &after.order, &[expected.order]),
+        difference("outline", one, one_after, &[]),
+        difference("other outline", other, other_after, &[]),
+        difference("form", form, form_after, &expected.forms[0]),
+        difference(
+            "other form",
+            other_form,
+            other_form_after,
+            &expected.forms[1],
+        ),
+    ];
+    let bytes = after.outlines.iter().chain(&after.forms);
+    let bytes: usize = bytes.map(|frame| frame.cells.len()).sum();
+    Comparison {
+        differences: differences.into_iter().flatten().collect(),
+        values: 1 + after.answer.cells.len() + after.order.cells.len() + bytes,
+    }
+}
+
 #[cfg(test)]
 mod tests {
     use super::*;
     use crate::call::Call;
     use crate::cases;
+    use crate::comparing::{self, CompareCall};
     use crate::expect;
+    use crate::form::{self, FormCall};
+    use crate::form_cases::SHUFFLED;
     use crate::frame::Frame;
     use crate::heading_cases::tree_a_with;
     use crate::library::{
-        Buffers, QuickBuffers, ReadBuffers, SheetBuffers, ViewBuffers, WriteBuffers,
+        Buffers, CompareBuffers, FormBuffers, QuickBuffers, ReadBuffers, SheetBuffers, ViewBuffers,
+        WriteBuffers,
     };
     use crate::lock_cases::locking;
     use crate::outline::bytes;
@@ -281,7 +347,7 @@ mod tests {
     use crate::sheet::{self, SheetCall};
     use crate::view::{self, Reader, ViewCall, READERS};
     use crate::writing::{self, WriteCall};
-    use crate::{wrong_picks, wrong_views};
+    use crate::{wrong_forms, wrong_orders, wrong_picks, wrong_views};
 
     /// What a right library does.
     fn right(expected: &Expected, call: &Call) -> ChooseObserved {
@@ -795,5 +861,98 @@ mod tests {
         ];
         assert_eq!(more_picks(&more, &fewer, 5), lost);
         assert_eq!(more_picks(&more, &fewer, 4), lost[..1]);
+    }
+
+    /// Tree A, shuffled, in house form by a right program, in a form of this length.
+    fn forming(len: usize) -> (FormExpected, FormObserved) {
+        let call = FormCall {
+            outline: SHUFFLED[6].concat(),
+            form: len,
+        };
+        let before = FormBuffers::random(&call, &mut Random::new(10));
+        (form::expected(&call), wrong_forms::RIGHT.run()(before))
+    }
+
+    #[test]
+    fn wrong_forms_are_noticed() {
+        for (len, number) in [(90, 0), (80, 0), (79, 9), (0, 9)] {
+            let pair = forming(len);
+            assert_eq!(pair.0.answer, [number, 0]);
+            assert_eq!(form(&pair.0, &pair.1).differences, [""; 0]);
+            is_the_one_difference(form, &pair, |o| &mut o.after.answer, |v| v ^ (1 << 31));
+            is_the_one_difference(form, &pair, |o| &mut o.after.outline, |v| v ^ 1);
+            is_the_one_difference(form, &pair, |o| &mut o.after.form, |v| v ^ 128);
+            let (expected, mut altered) = pair;
+            altered.returned ^= 1;
+            assert_eq!(form(&expected, &altered).differences.len(), 1);
+            altered.after.form = altered.before.form.clone();
+            let untouched = form(&expected, &altered).differences.len();
+            assert_eq!(untouched, if number == 0 { 2 } else { 1 });
+        }
+    }
+
+    #[test]
+    fn what_is_no_house_form_is_noticed_by_itself() {
+        let tree_a = bytes(&cases::tree_a());
+        let found = |form: &[u8]| in_house_form(&cases::tree_a(), form);
+        assert_eq!(found(&tree_a), [""; 0]);
+        assert_eq!(found(&SHUFFLED[0].concat()), ["form: not in text order"]);
+        let turned = [2, 5].map(|shuffled| SHUFFLED[shuffled].concat());
+        for outline in turned {
+            assert_eq!(found(&outline), ["form: a chain does not ascend"]);
+        }
+        for byte in [8, 20, 40, 47, 76] {
+            let mut other = tree_a.clone();
+            other[byte] ^= 128;
+            assert_eq!(found(&other), ["form: not the same tree"], "{byte}");
+        }
+        let refused = ["form: refused, Refusal { number: 2, place: 0 }"];
+        assert_eq!(found(&tree_a[..79]), refused);
+        assert_eq!(found(&[]), refused);
+        assert_eq!(found(&tree_a[64..]), ["form: not the same tree"]);
+        assert_eq!(found(&SHUFFLED[4].concat()).len(), 2);
+    }
+
+    /// Tree A, shuffled, beside a greater length by a right program, in forms of these lengths.
+    fn comparing_trees(forms: [usize; 2]) -> (CompareExpected, CompareObserved) {
+        let mut longer = SHUFFLED[6];
+        longer[4][4] = 5;
+        let call = CompareCall {
+            outlines: [longer, SHUFFLED[3]].map(|rows| rows.concat()),
+            within: None,
+            forms,
+        };
+        let before = CompareBuffers::random(&call, &mut Random::new(11));
+        let observed = wrong_orders::RIGHT.run()(before);
+        (comparing::expected(&call), observed)
+    }
+
+    #[test]
+    fn wrong_orders_are_noticed() {
+        for (forms, number) in [
+            ([90, 85], 0),
+            ([80, 80], 0),
+            ([79, 80], 9),
+            ([80, 79], 9),
+            ([0, 0], 9),
+        ] {
+            let pair = comparing_trees(forms);
+            assert_eq!(pair.0.answer, [number, 0]);
+            assert_eq!(pair.0.order, i32::from(number == 0));
+            assert_eq!(trees(&pair.0, &pair.1).differences, [""; 0]);
+            is_the_one_difference(trees, &pair, |o| &mut o.after.answer, |v| v ^ (1 << 31));
+            is_the_one_difference(trees, &pair, |o| &mut o.after.order, |v| v ^ (1 << 30));
+            for at in [0, 1] {
+                is_the_one_difference(trees, &pair, |o| &mut o.after.outlines[at], |v| v ^ 1);
+                is_the_one_difference(trees, &pair, |o| &mut o.after.forms[at], |v| v ^ 128);
+            }
+            let (expected, mut altered) = pair;
+            altered.returned ^= 1;
+            assert_eq!(trees(&expected, &altered).differences.len(), 1);
+            altered.after.forms = altered.before.forms.clone();
+            altered.after.order = altered.before.order.clone();
+            let untouched = trees(&expected, &altered).differences.len();
+            assert_eq!(untouched, if number == 0 { 4 } else { 2 });
+        }
     }
 }

@@ -225,7 +225,7 @@ fn damage_group(records: &mut [Record], rng: &mut Random) {
 }
 
 /// The whole field or the plate number only: the lock may be the other way.
-fn repeat_plate(records: &mut [Record], rng: &mut Random) {
+pub(crate) fn repeat_plate(records: &mut [Record], rng: &mut Random) {
     let taxa = taxa(records);
     if !taxa.is_empty() {
         let plate = records[rng.pick(&taxa)].plate;

@@ -27,6 +27,12 @@ impl Cell for u64 {
     }
 }
 
+impl Cell for i32 {
+    fn from_bits(bits: u64) -> Self {
+        bits as i32
+    }
+}
+
 /// The buffer is `cells[start..start + len]`; the cells around it are its guard.
 #[derive(Clone, Debug, PartialEq, Eq)]
 pub struct Frame<T> {

@@ -3,10 +3,16 @@
 pub mod call;
 pub mod cases;
 pub mod compare;
+pub mod comparing;
+pub mod comparing_cases;
+mod comparing_runs;
 pub mod damage;
 pub mod earlier;
 pub mod exhaustive;
 pub mod expect;
+pub mod form;
+pub mod form_cases;
+mod form_runs;
 pub mod frame;
 pub mod heading_cases;
 pub mod headings;
@@ -26,6 +32,7 @@ pub mod reading;
 pub mod report;
 pub mod rules;
 pub mod runs;
+pub mod same_tree;
 pub mod shapes;
 pub mod sheet;
 pub mod sheet_cases;
@@ -36,6 +43,9 @@ pub mod table;
 pub mod tally;
 pub mod text_cases;
 mod text_runs;
+pub mod tree_pairs;
+pub mod tree_rows;
+pub mod trees;
 pub mod view;
 pub mod view_cases;
 pub mod view_pairs;
@@ -43,6 +53,10 @@ mod view_runs;
 pub mod write_cases;
 pub mod write_runs;
 pub mod writing;
+#[cfg(test)]
+mod wrong_forms;
+#[cfg(test)]
+mod wrong_orders;
 #[cfg(test)]
 mod wrong_picks;
 #[cfg(test)]

@@ -1,6 +1,8 @@
 //! The static library's C interface, thin wrappers, and calls whose buffers are guarded.
 
 use crate::call::Call;
+use crate::comparing::CompareCall;
+use crate::form::FormCall;
 use crate::frame::Frame;
 use crate::quick::QuickCall;
 use crate::random::Random;
@@ -76,6 +78,25 @@ extern "C" {
         marks_len: usize,
         answer: *mut u32,
         ceiling: *mut u64,
+    ) -> u32;
+    fn plates_house_form(
+        outline: *const u8,
+        outline_len: usize,
+        form: *mut u8,
+        form_len: usize,
+        answer: *mut u32,
+    ) -> u32;
+    fn plates_compare(
+        a: *const u8,
+        a_len: usize,
+        b: *const u8,
+        b_len: usize,
+        form_a: *mut u8,
+        form_a_len: usize,
+        form_b: *mut u8,
+        form_b_len: usize,
+        answer: *mut u32,
+        order: *mut i32,
     ) -> u32;
 }
 
@@ -550,6 +571,145 @@ pub fn quick(count: u32, picks: u32, before: QuickBuffers) -> QuickObserved {
     }
 }
 
+/// What a call for a house form is handed, with its guards.
+#[derive(Clone, Debug)]
+pub struct FormBuffers {
+    pub outline: Frame<u8>,
+    pub form: Frame<u8>,
+    pub answer: Frame<u32>,
+}
+
+impl FormBuffers {
+    pub fn random(call: &FormCall, rng: &mut Random) -> Self {
+        FormBuffers {
+            outline: Frame::holding(&call.outline, rng),
+            form: Frame::random(call.form, rng),
+            answer: Frame::random(2, rng),
+        }
+    }
+}
+
+/// What a call for a house form returned and did to its buffers.
+#[derive(Clone, Debug)]
+pub struct FormObserved {
+    pub returned: u32,
+    pub before: FormBuffers,
+    pub after: FormBuffers,
+}
+
+/// A program that writes house forms: the library, or in tests a wrong one.
+pub type Former<'a> = &'a dyn Fn(FormBuffers) -> FormObserved;
+
+pub fn guarded_form(call: &FormCall, rng: &mut Random) -> FormObserved {
+    form(FormBuffers::random(call, rng))
+}
+
+/// The library's function on buffers as they are.
+pub fn form(before: FormBuffers) -> FormObserved {
+    let mut after = before.clone();
+    // SAFETY: each frame's buffer has the length given here, and the frames are separate allocations.
+    let returned = unsafe {
+        plates_house_form(
+            after.outline.pointer(),
+            after.outline.len,
+            after.form.pointer(),
+            after.form.len,
+            after.answer.pointer(),
+        )
+    };
+    FormObserved {
+        returned,
+        before,
+        after,
+    }
+}
+
+/// What a call that compares two trees is handed, with its guards.
+#[derive(Clone, Debug)]
+pub struct CompareBuffers {
+    pub outlines: [Frame<u8>; 2],
+    pub within: Option<usize>,
+    pub forms: [Frame<u8>; 2],
+    pub answer: Frame<u32>,
+    pub order: Frame<i32>,
+}
+
+impl CompareBuffers {
+    pub fn random(call: &CompareCall, rng: &mut Random) -> Self {
+        let [one, other] = &call.outlines;
+        CompareBuffers {
+            outlines: [one, other].map(|outline| Frame::holding(outline, rng)),
+            within: call.within,
+            forms: call.forms.map(|form| Frame::random(form, rng)),
+            answer: Frame::random(2, rng),
+            order: Frame::random(1, rng),
+        }
+    }
+}
+
+/// What a call that compares two trees returned and did to its buffers.
+#[derive(Clone, Debug)]
+pub struct CompareObserved {
+    pub returned: u32,
+    pub before: CompareBuffers,
+    pub after: CompareBuffers,
+}
+
+impl CompareObserved {
+    pub fn order(&self) -> i32 {
+        self.after.order.content()[0]
+    }
+
+    /// As many bytes of each form as the outline has.
+    pub fn forms(&self) -> [&[u8]; 2] {
+        [0, 1].map(|which| {
+            let form = self.after.forms[which].content();
+            &form[..self.before.outlines[which].len]
+        })
+    }
+}
+
+/// A program that compares two trees: the library, or in tests a wrong one.
+pub type Comparer<'a> = &'a dyn Fn(CompareBuffers) -> CompareObserved;
+
+pub fn guarded_compare(call: &CompareCall, rng: &mut Random) -> CompareObserved {
+    compare(CompareBuffers::random(call, rng))
+}
+
+/// The library's function on buffers as they are. A second outline that is a part of the first one's memory is handed over from
+/// there.
+pub fn compare(before: CompareBuffers) -> CompareObserved {
+    let mut after = before.clone();
+    let [one, other] = &mut after.outlines;
+    let (lengths, first) = ([one.len, other.len], one.pointer());
+    let second = before.within.map_or(other.pointer(), |at| {
+        assert_eq!(one.content()[at..][..other.len], *other.content());
+        first.wrapping_add(at)
+    });
+    let [form, other_form] = &mut after.forms;
+    // SAFETY: each frame's buffer has the length given here, and the frames are separate allocations; an outline inside the other
+    // ends inside it, and neither is written to; the answer has room for two numbers and the order for one.
+    let returned = unsafe {
+        plates_compare(
+            first,
+            lengths[0],
+            second,
+            lengths[1],
+            form.pointer(),
+            form.len,
+            other_form.pointer(),
+            other_form.len,
+            after.answer.pointer(),
+            after.order.pointer(),
+        )
+    };
+    CompareObserved {
+        returned,
+        before,
+        after,
+    }
+}
+
 #[cfg(test)]
 mod tests {
     use super::*;
@@ -653,5 +813,43 @@ mod tests {
         assert_eq!(answer.content(), [0, 0, 7, 3, 1]);
         assert_eq!(marks.content()[..5], [0, 0, 1, 0, 0]);
         assert_eq!(marks.content()[5], observed.before.marks.content()[5]);
+    }
+
+    #[test]
+    fn wrapper_writes_the_house_form_of_tree_a() {
+        let mut records = tree_a();
+        (records[2].plate, records[3].plate) = (12, 11);
+        let call = FormCall {
+            outline: bytes(&records),
+            form: 81,
+        };
+        let observed = guarded_form(&call, &mut Random::new(1));
+        assert_eq!(observed.returned, 0);
+        let FormBuffers { form, answer, .. } = observed.after;
+        assert_eq!(answer.content(), [0, 0]);
+        assert_eq!([44, 60].map(|at| form.content()[at]), [11, 12]);
+        assert_eq!(form.content()[80], observed.before.form.content()[80]);
+    }
+
+    /// Record 5 by itself is an outline too, and a lone taxon comes before a group.
+    #[test]
+    fn trees_are_taken_from_their_own_memory_or_one_from_the_other() {
+        let outline = bytes(&tree_a());
+        for (within, from, order) in [
+            (None, 0, 0),
+            (Some(0), 0, 0),
+            (None, 64, 1),
+            (Some(64), 64, 1),
+        ] {
+            let call = CompareCall {
+                outlines: [outline.clone(), outline[from..].to_vec()],
+                within,
+                forms: [80, 81],
+            };
+            let observed = guarded_compare(&call, &mut Random::new(1));
+            assert_eq!((observed.returned, observed.order()), (0, order));
+            assert_eq!(observed.forms(), [&outline[..], &outline[from..]]);
+            assert_eq!(observed.after.answer.content(), [0, 0]);
+        }
     }
 }

@@ -92,6 +92,17 @@ pub fn members(records: &[Record], position: usize) -> Vec<usize> {
     members
 }
 
+/// For each record the position of the group that it is a member of. The links are sound.
+pub fn parents(records: &[Record]) -> Vec<Option<usize>> {
+    let mut parents = vec![None; records.len()];
+    for group in 0..records.len() {
+        for member in members(records, group) {
+            parents[member] = Some(group);
+        }
+    }
+    parents
+}
+
 /// Whether each record is followed at once by everything below it.
 pub fn is_preorder(records: &[Record]) -> bool {
     let mut waiting = vec![0];
@@ -158,5 +169,6 @@ mod tests {
         assert_eq!(members(&interleaved, 1), [3]);
         assert_eq!(groups(&interleaved), [0, 1]);
         assert_eq!(taxa(&interleaved), [2, 3]);
+        assert_eq!(parents(&interleaved), [None, Some(0), Some(0), Some(1)]);
     }
 }

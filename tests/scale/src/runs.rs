@@ -61,7 +61,14 @@ impl Runner {
         self.stated_views()?;
         self.quick_choices(2 * outlines)?;
         self.more_picks(outlines / 10)?;
-        self.stated_quick_choices()
+        self.stated_quick_choices()?;
+        self.house_forms(outlines)?;
+        self.spelled_forms(outlines / 10)?;
+        self.stated_forms()?;
+        self.compared_outlines(outlines / 2)?;
+        self.compared_pairs(outlines / 4)?;
+        self.compared_rows(outlines / 20)?;
+        self.stated_orders()
     }
 
     /// Starts a run with numbers that do not depend on the runs before it.

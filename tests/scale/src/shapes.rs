@@ -5,14 +5,14 @@
 
 use std::collections::BTreeSet;
 
-use crate::outline::{Record, MOST_PLATE};
+use crate::outline::{taxa, Record, MOST_PLATE};
 use crate::random::Random;
 
 /// A tree before its nodes have record numbers; a node without members is a taxon.
-#[derive(Default)]
-struct Tree {
-    members: Vec<Vec<usize>>,
-    root: usize,
+#[derive(Clone, Default)]
+pub(crate) struct Tree {
+    pub members: Vec<Vec<usize>>,
+    pub root: usize,
 }
 
 /// The link that will name a record once it has its number.
@@ -36,7 +36,7 @@ impl Tree {
     }
 
     /// Puts a group with one member above a random node.
-    fn add_single_member_group(&mut self, rng: &mut Random) {
+    pub fn add_single_member_group(&mut self, rng: &mut Random) {
         let node = rng.index(self.members.len());
         let root = self.root;
         let group = self.members.len();
@@ -49,13 +49,17 @@ impl Tree {
         self.root = if node == root { group } else { root };
     }
 
-    /// Numbers the nodes so that links go to later records; `pick` says which of the nodes that may come next does.
-    fn records(&self, mut pick: impl FnMut(usize) -> usize) -> Vec<Record> {
-        let mut records = vec![Record::default(); self.members.len()];
+    /// Numbers the nodes at or below the root so that links go to later records; `pick` says which of the nodes that may come
+    /// next does. Gives the links, and the nodes in the order of their records.
+    pub fn numbered(&self, mut pick: impl FnMut(usize) -> usize) -> (Vec<Record>, Vec<usize>) {
+        let (mut records, mut nodes) = (Vec::new(), Vec::new());
         let root = [self.root];
         let mut ready: Vec<(&[usize], Link)> = vec![(&root, Link::None)];
-        for position in 0..records.len() {
+        while !ready.is_empty() {
             let (chain, link) = ready.remove(pick(ready.len()));
+            let position = records.len();
+            records.push(Record::default());
+            nodes.push(chain[0]);
             let number = position as u16 + 1;
             match link {
                 Link::None => {}
@@ -70,6 +74,11 @@ impl Tree {
                 ready.push((members, Link::First(position)));
             }
         }
+        (records, nodes)
+    }
+
+    fn records(&self, pick: impl FnMut(usize) -> usize) -> Vec<Record> {
+        let (mut records, _) = self.numbered(pick);
         set_plates(&mut records, 1..);
         records
     }
@@ -225,6 +234,34 @@ fn one_more(outline: &[Record]) -> Vec<Vec<Record>> {
     all
 }
 
+/// The outline with the plate fields of its taxa in every order.
+pub fn every_order_of_plates(records: &[Record]) -> Vec<Vec<Record>> {
+    let fields: Vec<u32> = taxa(records).iter().map(|&at| records[at].plate).collect();
+    let with_plates = |order: Vec<usize>| {
+        let mut records = records.to_vec();
+        set_plates(&mut records, order.into_iter().map(|at| fields[at]));
+        records
+    };
+    every_order(fields.len())
+        .into_iter()
+        .map(with_plates)
+        .collect()
+}
+
+/// The numbers below this one in every order.
+pub(crate) fn every_order(numbers: usize) -> Vec<Vec<usize>> {
+    let one_more = |orders: Vec<Vec<usize>>, number| {
+        let longer = |order: &Vec<usize>| -> Vec<Vec<usize>> {
+            let places = 0..=order.len();
+            places
+                .map(|place| [&order[..place], &[number], &order[place..]].concat())
+                .collect()
+        };
+        orders.iter().flat_map(longer).collect()
+    };
+    (0..numbers).fold(vec![Vec::new()], one_more)
+}
+
 /// Sets every length and every taxon's price.
 pub fn fill(
     records: &mut [Record],
@@ -305,7 +342,7 @@ fn random_plates(taxa: usize, rng: &mut Random) -> Vec<u32> {
 #[cfg(test)]
 mod tests {
     use super::*;
-    use crate::outline::{bytes, is_preorder, members, taxa};
+    use crate::outline::{bytes, is_preorder, members};
     use crate::rules;
 
     fn accepted(records: &[Record]) -> bool {
@@ -380,6 +417,28 @@ mod tests {
         for _ in 0..200 {
             assert!(all.contains(&random_outline_of(1 + rng.index(3), 6, rng)));
         }
+    }
+
+    #[test]
+    fn plates_stand_in_every_order() {
+        let orders = [
+            [2, 1, 0],
+            [1, 2, 0],
+            [1, 0, 2],
+            [2, 0, 1],
+            [0, 2, 1],
+            [0, 1, 2],
+        ];
+        assert_eq!(every_order(3), orders);
+        let mut stars = every_order_of_plates(&star(3));
+        let plates = stars.iter().map(|star| [1, 2, 3].map(|at| star[at].plate));
+        assert!(plates.eq(orders.map(|order| order.map(|at| at as u32 + 1))));
+        stars
+            .iter_mut()
+            .for_each(|records| set_plates(records, 1..));
+        assert_eq!(stars, vec![star(3); 6]);
+        let different: BTreeSet<Vec<usize>> = every_order(6).into_iter().collect();
+        assert_eq!((different.len(), every_order(0)), (720, vec![vec![]]));
     }
 
     #[test]

@@ -13,8 +13,8 @@ use crate::report::Stop;
 use crate::runs::Runner;
 use crate::text_cases;
 
-/// The stack that the deepest texts are read and written on, stated sheets listed, stated outlines shown, and stated quick choices
-/// made.
+/// The stack that the deepest texts are read and written on, stated sheets listed, stated outlines shown, stated quick choices
+/// made, and stated house forms written and compared.
 pub(crate) const SMALL_STACK: usize = 256 * 1_024;
 
 /// The refusals that reading can give.

@@ -88,7 +88,7 @@ pub fn all() -> Vec<ViewCase> {
 }
 
 /// Tree A, a row for each record.
-const TREE_A: [[u8; RECORD_BYTES]; 5] = [
+pub(crate) const TREE_A: [[u8; RECORD_BYTES]; 5] = [
     [0, 0, 2, 0, 0, 0, 0, 0, 0, 0, 0, 0, 0, 0, 0, 0],
     [5, 0, 3, 0, 3, 0, 0, 0, 0, 0, 0, 0, 0, 0, 0, 0],
     [4, 0, 0, 0, 4, 0, 0, 0, 3, 0, 0, 0, 11, 0, 0, 0],
@@ -240,7 +240,7 @@ fn interleaved() -> [ViewCase; 2] {
 }
 
 /// Every record gets the highest price, and every taxon a lock.
-fn dressed(mut records: Vec<Record>) -> Vec<Record> {
+pub(crate) fn dressed(mut records: Vec<Record>) -> Vec<Record> {
     records.iter_mut().for_each(|record| record.price = 65_535);
     let numbers: Vec<usize> = taxa(&records).iter().map(|taxon| taxon + 1).collect();
     locking(&numbers, records)
@@ -295,9 +295,10 @@ fn largest_of(name: &'static str, to_buyer: &[Record]) -> Vec<ViewCase> {
 }
 
 /// Tree A needs 80 bytes and an outline of one record 16.
+pub(crate) const SHORT: [usize; 11] = [79, 78, 65, 64, 63, 48, 32, 16, 15, 1, 0];
+pub(crate) const ROOMY: [usize; 8] = [81, 82, 95, 96, 97, 160, MOST_BYTES, 4_096];
+
 fn room() -> Vec<ViewCase> {
-    let short = [79, 78, 65, 64, 63, 48, 32, 16, 15, 1, 0];
-    let roomy = [81, 82, 95, 96, 97, 160, MOST_BYTES, 4_096];
     let of_tree_a = || {
         views(
             "room",
@@ -305,8 +306,8 @@ fn room() -> Vec<ViewCase> {
             &tree_a_to_buyer(),
         )
     };
-    let short = short.map(|view| of_tree_a().map(|case| case.short(view)));
-    let roomy = roomy.map(|view| of_tree_a().map(|case| case.roomy(view)));
+    let short = SHORT.map(|view| of_tree_a().map(|case| case.short(view)));
+    let roomy = ROOMY.map(|view| of_tree_a().map(|case| case.roomy(view)));
     let alone = || views("room", &[taxon(0, 5, 1, LOCK + 1)], &[taxon(0, 5, 0, 1)]);
     let of_one = [
         alone().map(|case| case.short(15)),

@@ -202,7 +202,7 @@ const DRAWINGS: [Drawing; 10] = [
 ];
 
 /// Any price but this one, at times with one bit changed.
-fn another_price(price: u32, rng: &mut Random) -> u32 {
+pub(crate) fn another_price(price: u32, rng: &mut Random) -> u32 {
     match rng.below(4) {
         0 => price ^ 1 << rng.below(16),
         1 => 65_535 - price,

@@ -377,7 +377,7 @@ impl Runner {
 }
 
 /// Enough or more, at times less or nothing.
-fn lent(needed: usize, rng: &mut Random) -> usize {
+pub(crate) fn lent(needed: usize, rng: &mut Random) -> usize {
     if rng.one_in(4) {
         short(needed, rng)
     } else {
@@ -386,9 +386,9 @@ fn lent(needed: usize, rng: &mut Random) -> usize {
 }
 
 /// What becomes of the record at a position; it is no fault at every record.
-type Fault = fn(&mut [Record], usize);
+pub(crate) type Fault = fn(&mut [Record], usize);
 
-const FAULTS: [Fault; 14] = [
+pub(crate) const FAULTS: [Fault; 14] = [
     |records, at| records[at].price = 65_536,
     |records, at| records[at].price = LOCK,
     |records, at| records[at].length = 1_000_001,
@@ -406,7 +406,7 @@ const FAULTS: [Fault; 14] = [
 ];
 
 /// The outline with each fault at each record.
-fn with_faults(records: &[Record]) -> Vec<Vec<u8>> {
+pub(crate) fn with_faults(records: &[Record]) -> Vec<Vec<u8>> {
     let places = (0..records.len()).flat_map(|at| FAULTS.map(|fault| (at, fault)));
     let faulty = |(at, fault): (usize, Fault)| {
         let mut records = records.to_vec();

@@ -90,7 +90,11 @@ const KINDS: [Kind; 15] = [
 
 impl Runner {
     /// What the library gave, of the buffers as much as it was to write.
-    fn write(&mut self, call: &WriteCall, expected: &WriteExpected) -> Result<WriteExpected, Stop> {
+    pub(crate) fn write(
+        &mut self,
+        call: &WriteCall,
+        expected: &WriteExpected,
+    ) -> Result<WriteExpected, Stop> {
         let observed = library::guarded_write(call, &mut self.rng);
         let comparison = compare::write(expected, &observed);
         self.report.add(&comparison, 0, || described(call))?;
@@ -132,7 +136,11 @@ impl Runner {
 
     /// Reads what was written from an outline and writes what was read. Where the records stand in text order, reading gives the
     /// same bytes, and the second writing equals the first.
-    fn read_and_write(&mut self, outline: &[u8], written: &WriteExpected) -> Result<(), Stop> {
+    pub(crate) fn read_and_write(
+        &mut self,
+        outline: &[u8],
+        written: &WriteExpected,
+    ) -> Result<(), Stop> {
         let call = ReadCall {
             text: written.text.clone(),
             pairs: written.pairs.clone(),
@@ -189,12 +197,7 @@ impl Runner {
 
     /// Writes an outline that was read, with just enough room.
     fn write_exactly(&mut self, outline: &[u8]) -> Result<WriteExpected, Stop> {
-        let [text, pairs] = needed(outline);
-        let call = WriteCall {
-            outline: outline.to_vec(),
-            text,
-            pairs,
-        };
+        let call = exactly(outline);
         self.write(&call, &writing::expected(&call))
     }
 
@@ -255,6 +258,16 @@ fn go_beyond_text(records: &mut [Record], rng: &mut Random) {
         } else {
             record.price = rng.pick(&[1, 65_535]);
         }
+    }
+}
+
+/// A call with just enough room for the text of an accepted outline.
+pub(crate) fn exactly(outline: &[u8]) -> WriteCall {
+    let [text, pairs] = needed(outline);
+    WriteCall {
+        outline: outline.to_vec(),
+        text,
+        pairs,
     }
 }
 

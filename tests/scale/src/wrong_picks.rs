@@ -6,7 +6,7 @@ use std::iter;
 use std::ops::RangeInclusive;
 
 use crate::library::{QuickBuffers, QuickObserved};
-use crate::outline::{self, groups, members, taxa, Record, ROOTED, UNROOTED};
+use crate::outline::{self, groups, parents, taxa, Record, ROOTED, UNROOTED};
 use crate::quick::{QuickCall, QuickExpected, MOST_PICKS};
 use crate::rules::{self, Refusal};
 use crate::{sheet, table};
@@ -123,7 +123,7 @@ impl Set {
     fn of(records: &[Record], count: u32, holds: fn(&Record) -> bool) -> Self {
         let mut set = Set {
             records: records.to_vec(),
-            above: above(records),
+            above: parents(records),
             count,
             chosen: vec![false; records.len()],
             reached: vec![false; records.len()],
@@ -229,16 +229,6 @@ impl Set {
     fn marks(&self) -> Vec<u8> {
         self.chosen.iter().map(|&chosen| u8::from(chosen)).collect()
     }
-}
-
-fn above(records: &[Record]) -> Vec<Option<usize>> {
-    let mut above = vec![None; records.len()];
-    for group in 0..records.len() {
-        for member in members(records, group) {
-            above[member] = Some(group);
-        }
-    }
-    above
 }
 
 impl Program {
