@@ -18,7 +18,6 @@ use Rattle.laws.specs.Forest.{Forest, empty, node, records_in, tree}
 use Rattle.laws.proofs.Accepted.{formed_accepted}
 use Rattle.laws.proofs.Chains.{clade_root}
 use Rattle.laws.proofs.Forest.{listed, sum_all, chain_listed}
-use Rattle.laws.proofs.Paths.{parent_later}
 use Rattle.laws.proofs.Subtrees.{parent_one}
 use Rattle.laws.proofs.Sums.{occurs, occurs_once}
 use Rattle.laws.proofs.Members.{Root, root_none, root_head, root_rest, root_alone, parent_first}
@@ -28,6 +27,7 @@ use Rattle.canonical.specs.Rules.{Ascending}
 use Rattle.canonical.proofs.Laid.{Entry, Laid, laid, laid_at, laid_named, laid_total, laid_listed, written_length}
 use Rattle.canonical.proofs.Places.{At, at_here, at_below, at_rest, at_range, at_member, at_next, at_all, at_ranked, record_at, place_of, record_stands, place_stands, none_before, one_record, one_place}
 use Rattle.canonical.proofs.Renumbering.{smallest_to}
+use Rattle.canonical.proofs.Smallest.{member_record}
 use Rattle.canonical.proofs.Sorting.{All, all_more, Full, sorted_sum, sorted_full, sorted_ranked, root_one, sorted_records, sorted_once}
 
 -- ---- bytes
@@ -42,20 +42,20 @@ bytes_both : (xs ys : List ℕ) → Bytes xs → Bytes ys → Bytes (xs ++ ys)
 bytes_both [] ys a b = b
 bytes_both (x ∷ xs) ys a b = bytes_more x (a.small 0) (bytes_both xs ys (record { small = λ i. a.small (suc i) }) b)
 
-bytes_small : (k n : ℕ) → Bytes (bytes k n)
+number_bytes : (k n : ℕ) → Bytes (bytes k n)
 unfolding bytes
-bytes_small zero n = record { small = λ i. omega arith }
-bytes_small (suc k) n = bytes_more (n % 256) (omega arith) (bytes_small k (n / 256))
+number_bytes zero n = record { small = λ i. omega arith }
+number_bytes (suc k) n = bytes_more (n % 256) (omega arith) (number_bytes k (n / 256))
 
 written_bytes : (o : List ℕ) (k : ℕ) (F : Forest) → Bytes (written o k F)
 unfolding written record_bytes
 written_bytes o k empty = record { small = λ i. omega arith }
 written_bytes o k (node r f n) =
     bytes_both (record_bytes (link (k + 1 + records_in f) n) (link (k + 1) f) (branch o r) (price o r) (plate_field o r)) _
-    (bytes_both (bytes 2 (link (k + 1 + records_in f) n)) _ (bytes_small 2 (link (k + 1 + records_in f) n))
-    (bytes_both (bytes 2 (link (k + 1) f)) _ (bytes_small 2 (link (k + 1) f))
-    (bytes_both (bytes 4 (branch o r)) _ (bytes_small 4 (branch o r))
-    (bytes_both (bytes 4 (price o r)) _ (bytes_small 4 (price o r)) (bytes_small 4 (plate_field o r))))))
+    (bytes_both (bytes 2 (link (k + 1 + records_in f) n)) _ (number_bytes 2 (link (k + 1 + records_in f) n))
+    (bytes_both (bytes 2 (link (k + 1) f)) _ (number_bytes 2 (link (k + 1) f))
+    (bytes_both (bytes 4 (branch o r)) _ (number_bytes 4 (branch o r))
+    (bytes_both (bytes 4 (price o r)) _ (number_bytes 4 (price o r)) (number_bytes 4 (plate_field o r))))))
     (bytes_both (written o (k + 1) f) _ (written_bytes o (k + 1) f) (written_bytes o (k + 1 + records_in f) n))
 
 pub house_length : (o : List ℕ) → WellFormed o → length (house_form o) ≡ 16 * size o
@@ -115,6 +115,11 @@ module _ (o : List ℕ) (ac : Accepted o) where
       let (g, m, b) = record_stands S 1 j w.low (omega (arith, w.high)) in
       one_record b a refl
 
+  -- a link to a chain that comes later leads to a later record
+  link_later : {j x : ℕ} (k : ℕ) (F : Forest) → j < k → k + records_in F ≤ 1 + records_in S → x ≡ link k F → Later h j x
+  link_later k empty l u e = record { later = λ p. absurd (omega arith); most = omega arith }
+  link_later k (node q f n) l u e = record { later = λ p. omega arith; most = omega (arith, many, size_same) }
+
   module _ {j r : ℕ} {g m : Forest} (a : At S 1 j r g m) where
     own : Full o r g
     own = at_all full a
@@ -125,20 +130,12 @@ module _ (o : List ℕ) (ac : Accepted o) where
     number : IsRecord h j
     number = let w = at_range a in record { low = w.low; high = omega (arith, w.high, many, size_same) }
 
-    -- a link leads to a later record
+    -- its links lead to later records
     first_after : Later h j (first h j)
-    first_after = go g (at_range a).high entry.first_is
-      where
-        go : (g : Forest) → j + 1 + records_in g + records_in m ≤ 1 + records_in S → first h j ≡ link (j + 1) g → Later h j (first h j)
-        go empty u e = record { later = λ p. absurd (omega arith); most = omega arith }
-        go (node q f n) u e = record { later = λ p. omega arith; most = omega (arith, many, size_same) }
+    first_after = link_later (j + 1) g (omega arith) (omega (arith, (at_range a).high)) entry.first_is
 
     next_after : Later h j (next h j)
-    next_after = go m (at_range a).high entry.next_is
-      where
-        go : (m : Forest) → j + 1 + records_in g + records_in m ≤ 1 + records_in S → next h j ≡ link (j + 1 + records_in g) m → Later h j (next h j)
-        go empty u e = record { later = λ p. absurd (omega arith); most = omega arith }
-        go (node q f n) u e = record { later = λ p. omega arith; most = omega (arith, many, size_same) }
+    next_after = link_later (j + 1 + records_in g) m (omega arith) (at_range a).high entry.next_is
 
     -- a taxon is one still: it has no members
     taxon_same : is_taxon h j ≡ is_taxon o r
@@ -267,7 +264,7 @@ module _ (o : List ℕ) (ac : Accepted o) where
   parents (of_next {p} {q} x l) = go (placed q i).rest (placed q i).at (parents x)
     where
       i : IsRecord h q
-      i = let k = parent_later h linked x in record { low = omega (arith, k.0); high = k.1 }
+      i = member_record h linked x
 
       go : {g : Forest} (m : Forest) → At S 1 q (to q) g m → Parent o (to p) (to q) → Parent o (to p) (to (next h q))
       go empty a y = absurd (omega (arith, l, (entry a).next_is))

@@ -1,13 +1,13 @@
 -- To be the same tree is an equivalence of accepted outlines; and what a renumbering keeps besides: ways, taxa, smallest plates.
 use Rattle.std.specs.Prelude.{if◌then◌else◌}
-use Prim.Native.Nat.{ℕ, ◌%◌, ◌≤◌}
+use Prim.Native.Nat.{ℕ, ◌≤◌}
 use mathlib.Core.Path.{◌≡◌, refl, sym, ap, subst, ◌∙◌}
 use mathlib.Core.Bool.{Bool, true, false}
 use mathlib.Core.List.{List}
 use native.Mathlib.Omega.{arith}
 use lib.Dec.{eqb}
 use borrow.Author.Tests.{eqb-true, eqb-false, eq-eqb, ne_eqb}
-use Rattle.outline.specs.Outline.{size, branch, price, plate_field, lock_bit, plate, is_taxon, IsRecord}
+use Rattle.outline.specs.Outline.{size, plate, is_taxon, IsRecord}
 use Rattle.outline.specs.WellFormed.{WellFormed}
 use Rattle.diversity.specs.Paths.{Parent, OnWay, itself, parent}
 use Rattle.laws.proofs.Paths.{parent_later}
@@ -15,7 +15,7 @@ use Rattle.laws.proofs.Subtrees.{parent_of, parent_one}
 use Rattle.canonical.specs.SameTree.{SameTree}
 use Rattle.canonical.specs.House.{smallest}
 use Rattle.canonical.specs.Rules.{TaxonBelow, SmallestPlate}
-use Rattle.canonical.proofs.Smallest.{plate_taxon, taxon_plate, smallest_plate, smallest_one}
+use Rattle.canonical.proofs.Smallest.{member_record, plate_taxon, taxon_plate, smallest_plate, smallest_one}
 
 pub same_refl : (o : List ℕ) → SameTree o o
 same_refl o = record {
@@ -99,24 +99,22 @@ module _ {o p : List ℕ} (formed : WellFormed o) (also : WellFormed p) (s : Sam
     to_back = λ r i. turned_to r i.high;
     none = turned_none;
     parents = turned_parent;
-    branches = λ r i. kept branch s.branches r i;
-    prices = λ r i. kept price s.prices r i;
-    plate_fields = λ r i. kept plate_field s.plate_fields r i;
+    branches = kept _ _ s.branches;
+    prices = kept _ _ s.prices;
+    plate_fields = kept _ _ s.plate_fields;
   }
     where
-      kept : (f : List ℕ → ℕ → ℕ) → ((r : ℕ) → IsRecord o r → f p (s.to r) ≡ f o r) → (r : ℕ) → IsRecord p r → f o (turned r) ≡ f p r
-      kept f h r i = ap (f o) (turned_record r i.low) ∙ sym (h (s.back r) (s.back_record r i)) ∙ ap (f p) (s.to_back r i)
+      kept : (f g : ℕ → ℕ) → ((r : ℕ) → IsRecord o r → g (s.to r) ≡ f r) → (r : ℕ) → IsRecord p r → f (turned r) ≡ g r
+      kept f g h r i = ap f (turned_record r i.low) ∙ sym (h (s.back r) (s.back_record r i)) ∙ ap g (s.to_back r i)
 
 -- ---- what a renumbering keeps besides
 module _ {o p : List ℕ} (formed : WellFormed o) (also : WellFormed p) (s : SameTree o p) where
   ways_to : {t r : ℕ} → IsRecord o t → OnWay o t r → OnWay p (s.to t) (s.to r)
   ways_to i itself = itself
-  ways_to i (parent {p = g} {q = q} w x) =
-      let later = parent_later o formed.linked x in
-      parent (ways_to i w) (s.parents g q (record { low = omega arith; high = later.1 }) x)
+  ways_to i (parent {p = g} {q = q} w x) = parent (ways_to i w) (s.parents g q (member_record o formed.linked x) x)
 
   plates_to : (r : ℕ) → IsRecord o r → plate p (s.to r) ≡ plate o r
-  plates_to r i = ap (λ n. n % lock_bit) (s.plate_fields r i)
+  plates_to r i = omega (arith, s.plate_fields r i)
 
   taxa_to : (r : ℕ) → IsRecord o r → is_taxon o r ≡ true → is_taxon p (s.to r) ≡ true
   taxa_to r i e =

@@ -124,6 +124,10 @@ unfolding smallest clade
 chain_smallest o linked r l u =
     ap (smallest_of o) (chain_step o linked r l u) ∙ smallest_append o (r ∷ chain (size o) o (first o r)) (chain (size o) o (next o r))
 
+-- a member is a record
+pub member_record : (o : List ℕ) → Linked o → {g m : ℕ} → Parent o g m → IsRecord o m
+member_record o linked x = let l = parent_later o linked x in record { low = omega (arith, l.0); high = l.1 }
+
 -- ---- of an accepted outline
 module _ (o : List ℕ) (formed : WellFormed o) where
   -- a record with a plate is a taxon
@@ -175,14 +179,11 @@ module _ (o : List ℕ) (formed : WellFormed o) where
       let (v, c, f) = u.taken in
       omega (arith, e, f, s.least v c, u.least t b)
 
-  member_record : {g m : ℕ} → Parent o g m → IsRecord o m
-  member_record x = let l = parent_later o formed.linked x in record { low = omega (arith, l.0); high = l.1 }
-
   -- two members of one record differ in it
   pub members_differ : {g q r : ℕ} → Parent o g q → Parent o g r → smallest o q ≡ smallest o r → q ≡ r
   members_differ {g} {q} {r} x y h =
-      let (t, b, e) = (smallest_plate q (member_record x)).taken in
-      let (u, c, k) = (smallest_plate r (member_record y)).taken in
+      let (t, b, e) = (smallest_plate q (member_record o formed.linked x)).taken in
+      let (u, c, k) = (smallest_plate r (member_record o formed.linked y)).taken in
       let i = b.record_here in
       let j = c.record_here in
       let same : u ≡ t = formed.plates_differ u t j.low j.high i.low i.high c.taxon_here b.taxon_here (omega (arith, e, k, h)) in

@@ -7,12 +7,12 @@ use Rattle.outline.specs.Outline.{first, IsRecord}
 use Rattle.outline.specs.WellFormed.{WellFormed}
 use Rattle.diversity.specs.Paths.{Parent, of_root}
 use Rattle.laws.specs.Forest.{Forest, empty, node, records_in, tree}
-use Rattle.laws.proofs.Paths.{parent_later}
 use Rattle.laws.proofs.Subtrees.{under_root}
 use Rattle.laws.proofs.Members.{Root, Split, head, rest, root_none, root_head, root_rest, root_split, root_alone}
 use Rattle.canonical.specs.SameTree.{SameTree}
 use Rattle.canonical.specs.House.{smallest, sorted, link, written, house_form}
 use Rattle.canonical.proofs.Renumbering.{turned, turned_to, to_turned, turned_here, turned_parent, smallest_to}
+use Rattle.canonical.proofs.Smallest.{member_record}
 use Rattle.canonical.proofs.Sorting.{Ranked, ranked_none, ranked_more, All, all_none, all_more, Full, sorted_full, sorted_ranked, root_one}
 
 -- a forest with its records renumbered
@@ -27,6 +27,17 @@ records_renamed to (node r f n) = omega (arith, records_renamed to f, records_re
 link_renamed : (to : ℕ → ℕ) (k : ℕ) (F : Forest) → link k (renamed to F) ≡ link k F
 link_renamed to k empty = refl
 link_renamed to k (node r f n) = refl
+
+-- a record that comes after r in its chain goes to the rest of another, whose first comes from r
+rest_goes : (o : List ℕ) (to back : ℕ → ℕ) {q r t : ℕ} (g m : Forest) → back (to q) ≡ q → back t ≡ r → smallest o r < smallest o q
+    → Root (to q) (node t g m) → Root (to q) m
+rest_goes o to back {q} {r} {t} g m home first less h = go (root_split (to q) t g m h)
+  where
+    go : Split (to q) t m → Root (to q) m
+    go (head e) =
+        let same : q ≡ r = sym home ∙ ap back e ∙ first in
+        absurd (omega (arith, less, ap (smallest o) same))
+    go (rest d k) = k
 
 module _ {o p : List ℕ} (formed : WellFormed o) (also : WellFormed p) (s : SameTree o p) where
   abbrev to : ℕ → ℕ
@@ -59,31 +70,20 @@ module _ {o p : List ℕ} (formed : WellFormed o) (also : WellFormed p) (s : Sam
             ))
 
     rests_to : (q : ℕ) → IsRecord o q → Root q n → Root (to q) m
-    rests_to q k h = go (root_split (to q) t g m (there q (root_rest q r f n h)))
-      where
-        go : Split (to q) t m → Root (to q) m
-        go (head e) =
-            let same : q ≡ r = sym (turned_to formed also s q k.high) ∙ ap back (e ∙ sym heads) ∙ turned_to formed also s r i.high in
-            absurd (omega (arith, z q h, ap (smallest o) same))
-        go (rest d h) = h
+    rests_to q k h =
+        rest_goes o to back g m (turned_to formed also s q k.high) (ap back (sym heads) ∙ turned_to formed also s r i.high) (z q h)
+        (there q (root_rest q r f n h))
 
     rests_back : (q : ℕ) → IsRecord p q → Root q m → Root (back q) n
-    rests_back q k h = go (root_split (back q) r f n (here q (root_rest q t g m h)))
-      where
-        go : Split (back q) r n → Root (back q) n
-        go (head e) =
-            let same : q ≡ t = sym (to_turned formed also s q k) ∙ ap to e ∙ heads in
-            absurd (omega (arith, y q h, ap (smallest p) same))
-        go (rest d h) = h
+    rests_back q k h = rest_goes p back to f n (to_turned formed also s q k) heads (y q h) (here q (root_rest q t g m h))
 
   -- the members of a record go to the members of the record that it goes to, and come from them
   members_to : (r q : ℕ) → Parent o r q → Parent p (to r) (to q)
-  members_to r q x = let l = parent_later o formed.linked x in s.parents r q (record { low = omega (arith, l.0); high = l.1 }) x
+  members_to r q x = s.parents r q (member_record o formed.linked x) x
 
   members_back : (r q : ℕ) → IsRecord o r → Parent p (to r) q → Parent o r (back q)
   members_back r q i x =
-      let l = parent_later p also.linked x in
-      subst (λ v. Parent o v (back q)) (turned_to formed also s r i.high) (turned_parent formed also s (to r) q (record { low = omega (arith, l.0); high = l.1 }) x)
+      subst (λ v. Parent o v (back q)) (turned_to formed also s r i.high) (turned_parent formed also s (to r) q (member_record p also.linked x) x)
 
   chain_records : {a : List ℕ} {F : Forest} → All (Full a) F → (q : ℕ) → Root q F → IsRecord a q
   chain_records all_none q h = absurd (root_none q h)
