@@ -1,6 +1,6 @@
 -- A line of numbers, put number by number.
 use Prim.Native.Nat.{ℕ, ◌+◌, ◌-◌, ◌≤◌, ◌<◌}
-use mathlib.Core.Path.{◌≡◌, subst}
+use mathlib.Core.Path.{◌≡◌}
 use mathlib.Core.List.{List, [], ◌∷◌, ◌++◌}
 use native.Mathlib.Numerals.{add-one}
 use native.Mathlib.Omega.{arith}
@@ -9,7 +9,7 @@ use lib.Seq.{drop-cons, take_all}
 use Rattle.text.specs.Text.{blank, line_end, decimal, others, line}
 use Rattle.text.specs.Written.{LongEnough, Put}
 use Rattle.text.specs.declared.Pen.{Pen}
-use Rattle.text.proofs.Writing.{Left, left_starts, left_fits, left_goes, left_ends}
+use Rattle.text.proofs.Writing.{Left, left_fits, left_goes, left_ends}
 
 others_more : (ns : List ℕ) (i : ℕ) → i < length ns
     → others (drop i ns) ≡ (blank ∷ []) ++ (decimal (get_or ns i 0) ++ others (drop (i + 1) ns))

@@ -1,5 +1,5 @@
-use Rattle.std.proofs.Common.{arith, sym, ◌∙◌}
-use Rattle.choice.proofs.Digits.{decode_long, reading_starts, reading_taxon, reading_group}
+use Rattle.std.proofs.Common.{sym, ◌∙◌}
+use Rattle.choice.proofs.Digits.{reading_starts, reading_taxon, reading_group}
 use Rattle.choice.proofs.marks.write_marks.Goals as goal
 use Rattle.choice.proofs.marks.write_marks.Goals.{then-is_taxon, else-is_taxon}
 
