@@ -5,7 +5,7 @@ ghost use Rattle.std.specs.Ordering.{nat_cmp};
 ghost use Rattle.house.specs.Compared.{call, told, Answered};
 
 use super::form::write_form;
-use super::judge::judge_both;
+use super::judge::judge;
 use refusals::Refusal;
 use std::cmp::Ordering;
 
@@ -26,7 +26,7 @@ pub fn compare(
 ) -> Result<Ordering, Refusal>
     ensures { Answered (call a.now b.now form_a.old form_b.old) (told result) form_a.new form_b.new }
 {
-    judge_both(a, b, form_a, form_b)?;
+    judge(a, b, form_a, form_b)?;
     write_form(a, form_a);
     write_form(b, form_b);
     Ok(order_of(&form_a[..a.len()], &form_b[..b.len()]))

@@ -8,8 +8,8 @@ ghost use Rattle.house.specs.Answer.{call, Answered};
 ghost use Rattle.house.specs.Inner.{RecordFits, ChainFits, ChainWritten, FormFits};
 
 use super::chains::Chains;
-use super::judge::judge;
 use super::plates::smallest_plates;
+use outline::checker::check_with_room;
 use outline::fields::{branch_of, plate_field_of, price_of};
 use records::put_record;
 use refusals::Refusal;
@@ -71,7 +71,7 @@ pub fn write_form(o: &[u8], form: &mut [u8])
 pub fn house_form(outline: &[u8], form: &mut [u8]) -> Result<(), Refusal>
     ensures { Answered (call outline.now form.old) (told result) form.new }
 {
-    judge(outline, form)?;
+    check_with_room(outline, form)?;
     write_form(outline, form);
     Ok(())
 }

@@ -1,6 +1,6 @@
 // The check of an outline: the first row of the table of refusals that holds, and its place.
-ghost use Rattle.std.specs.Prelude.{◌≡◌, ◌≤◌};
-ghost use Rattle.refusals.specs.Refusals.{told};
+ghost use Rattle.std.specs.Prelude.{◌≡◌, ◌*◌, ◌≤◌, length, ltb};
+ghost use Rattle.refusals.specs.Refusals.{told, row, ◌▸◌};
 ghost use Rattle.outline.specs.Outline.{size};
 ghost use Rattle.outline.specs.Answer.{size_rows, record_rows, checked};
 ghost use Rattle.outline.specs.Rules.{most_records};
@@ -52,4 +52,15 @@ pub fn check(outline: &[u8]) -> Result<(), Refusal>
 {
     check_size(outline)?;
     check_records(outline)
+}
+
+// The check, then row 9 for a lent buffer: whether it has 16 bytes for each record.
+pub fn check_with_room(outline: &[u8], lent: &[u8]) -> Result<(), Refusal>
+    ensures { told result ≡ (checked outline.now ▸ row 9 (ltb (length lent.now) (16 * size outline.now))) }
+{
+    check(outline)?;
+    if lent.len() < 16 * (outline.len() / 16) {
+        return Err(Refusal::BufferTooShort);
+    }
+    Ok(())
 }

@@ -8,7 +8,7 @@ ghost use Rattle.view.specs.Answer.{call, Answered};
 ghost use Rattle.view.specs.Inner.{RecordFits};
 ghost use Rattle.view.specs.View.{buyer_record, buyer_view};
 
-use super::judge::judge;
+use outline::checker::check_with_room;
 use outline::fields::{branch_of, first_of, next_of, plate_of};
 use records::put_record;
 use refusals::Refusal;
@@ -45,7 +45,7 @@ fn write_cleared(o: &[u8], view: &mut [u8])
 pub fn view_buyer(outline: &[u8], view: &mut [u8]) -> Result<(), Refusal>
     ensures { Answered buyer_view (call outline.now view.old) (told result) view.new }
 {
-    judge(outline, view)?;
+    check_with_room(outline, view)?;
     write_cleared(outline, view);
     Ok(())
 }

@@ -4,7 +4,6 @@
 
 mod buyer;
 mod house;
-mod judge;
 
 pub use buyer::view_buyer;
 pub use house::view_house;

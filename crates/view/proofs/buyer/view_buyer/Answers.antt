@@ -2,15 +2,19 @@
 use Rattle.std.proofs.Common.{sym, ap}
 use Rattle.refusals.specs.Refusals.{Ruling}
 use Rattle.refusals.proofs.Refusals.{handed_on}
+use Rattle.view.specs.Answer.{judged}
 use Rattle.view.specs.View.{buyer_view}
 use Rattle.view.proofs.Answers.{view_suffices, shown_answered, refused_answered}
 use Rattle.view.proofs.buyer.view_buyer.Goals as goal
 
 pub write_cleared-requires : goal.write_cleared-requires
-write_cleared-requires c = view_suffices _ (ap (λ (t : Ruling). t.number) (sym c.in_ok-judge.ensures))
+unfolding judged
+write_cleared-requires c = view_suffices _ (ap (λ (t : Ruling). t.number) (sym c.in_ok-check_with_room.ensures))
 
-pub returns-in_err-judge : goal.returns-in_err-judge
-returns-in_err-judge c = rw (handed_on _ c.from_residual.ensures.1) (refused_answered _ buyer_view _ c.in_err-judge.ensures)
+pub returns-in_err-check_with_room : goal.returns-in_err-check_with_room
+unfolding judged
+returns-in_err-check_with_room c = rw (handed_on _ c.from_residual.ensures.1) (refused_answered _ buyer_view _ c.in_err-check_with_room.ensures)
 
 pub returns : goal.returns
-returns c = shown_answered _ buyer_view c.in_ok-judge.ensures c.write_cleared.ensures
+unfolding judged
+returns c = shown_answered _ buyer_view c.in_ok-check_with_room.ensures c.write_cleared.ensures
