@@ -4,7 +4,7 @@
 #![tactic(auto)]
 
 ghost use Rattle.std.specs.Prelude.{◌≡◌, ◌≤◌, ◌-◌, ◌∷◌, length, replicate};
-ghost use Rattle.refusals.specs.Refusals.{ruling, refusal as told};
+ghost use Rattle.refusals.specs.Refusals.{ruling, refusal as told, told as told_of};
 ghost use Rattle.outline.specs.Answer.{checked, found_at};
 ghost use Rattle.reading.specs.Answer.{call as reading, Numbers};
 ghost use Rattle.writing.specs.Answer.{call as writing};
@@ -15,7 +15,7 @@ ghost use Rattle.house.specs.Answer.{call as forming};
 ghost use Rattle.house.specs.Compared.{call as comparing};
 ghost use Rattle.view.specs.Answer.{call as viewing};
 ghost use Rattle.view.specs.View.{house_view, buyer_view};
-ghost use Rattle.plates.specs.Interface.{Chosen, QuicklyChosen, SheetListed, TextRead, TextWritten, Viewed, Formed, order_number, TreesCompared};
+ghost use Rattle.plates.specs.Interface.{Chosen, QuicklyChosen, SheetListed, TextRead, TextWritten, Viewed, Formed, order_number, TreesCompared, ruling_in};
 ghost use Rattle.outline.specs.Rules.{most_records};
 
 use choice::choose;
@@ -40,6 +40,21 @@ fn refuse(refusal: Refusal, answer: &mut [u32]) -> u32
     answer[0] = refusal.number();
     answer[1] = refusal.place() as u32;
     answer[0]
+}
+
+// Writes number and place of what a function without figures answers; gives the number.
+fn tell(answered: Result<(), Refusal>, answer: &mut [u32; 2]) -> u32
+    requires { (told_of answered).place ≤ most_records }
+    ensures written { ruling_in answer.new ≡ told_of answered }
+    ensures number { result ≡ (told_of answered).number }
+{
+    match answered {
+        Ok(()) => {
+            *answer = [0, 0];
+            0
+        }
+        Err(refusal) => refuse(refusal, answer),
+    }
 }
 
 // 0, or the number of the first row of the table that refuses an outline; writes its place.
@@ -185,18 +200,12 @@ pub extern "C" fn plates_write(
     }
 }
 
-// Shows an outline to a house reader, and writes number and place; the number is given as well. C calls both views by name.
+// Shows an outline to a house reader, and writes number and place; the number is given as well.
 #[unsafe(no_mangle)]
 pub extern "C" fn plates_view_house(outline: &[u8], view: &mut [u8], answer: &mut [u32; 2]) -> u32
     ensures { Viewed house_view (viewing outline.now view.old) result answer.new view.new }
 {
-    match view_house(outline, view) {
-        Ok(()) => {
-            *answer = [0, 0];
-            0
-        }
-        Err(refusal) => refuse(refusal, answer),
-    }
+    tell(view_house(outline, view), answer)
 }
 
 // Shows an outline to a buyer's reader, without prices and locks, and writes number and place; the number is given as well.
@@ -204,13 +213,7 @@ pub extern "C" fn plates_view_house(outline: &[u8], view: &mut [u8], answer: &mu
 pub extern "C" fn plates_view_buyer(outline: &[u8], view: &mut [u8], answer: &mut [u32; 2]) -> u32
     ensures { Viewed buyer_view (viewing outline.now view.old) result answer.new view.new }
 {
-    match view_buyer(outline, view) {
-        Ok(()) => {
-            *answer = [0, 0];
-            0
-        }
-        Err(refusal) => refuse(refusal, answer),
-    }
+    tell(view_buyer(outline, view), answer)
 }
 
 // Writes the house form of an outline, and writes number and place; the number is given as well.
@@ -218,13 +221,7 @@ pub extern "C" fn plates_view_buyer(outline: &[u8], view: &mut [u8], answer: &mu
 pub extern "C" fn plates_house_form(outline: &[u8], form: &mut [u8], answer: &mut [u32; 2]) -> u32
     ensures { Formed (forming outline.now form.old) result answer.new form.new }
 {
-    match house_form(outline, form) {
-        Ok(()) => {
-            *answer = [0, 0];
-            0
-        }
-        Err(refusal) => refuse(refusal, answer),
-    }
+    tell(house_form(outline, form), answer)
 }
 
 // The number of an order, as C compares.

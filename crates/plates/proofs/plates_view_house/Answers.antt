@@ -1,8 +1,7 @@
 -- `plates::plates_view_house` meets its contract.
-use Rattle.std.proofs.Common.{arith}
 use Rattle.view.proofs.Bounds.{place_most}
 use Rattle.plates.proofs.plates_view_house.Goals as goal
 
 -- a place fits 32 bits
-pub refuse-requires : goal.refuse-requires
-refuse-requires c = record { room = omega arith; placed = place_most _ _ c.in-Err.ensures }
+pub tell-requires : goal.tell-requires
+tell-requires c = place_most _ _ c.view_house.ensures
