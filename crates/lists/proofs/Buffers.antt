@@ -4,10 +4,10 @@ use mathlib.Core.Path.{◌≡◌, refl, sym, ap, ◌∙◌}
 use mathlib.Core.List.{List, [], ◌∷◌, ◌++◌}
 use native.Mathlib.Omega.{arith}
 use native.Mathlib.Numerals.{add-one}
-use lib.ListN.{length, get_or, take, drop, set, length-append, length-drop, take-append-drop}
+use lib.ListN.{length, get_or, take, drop, set, length-append, length-drop, length-take, take-append-drop, drop_of_length-le}
 use lib.ListN.{get_or-append}
 use lib.Seq.{take-length, take_at, drop_at}
-use Rattle.std.proofs.Common.{Fits, w8}
+use Rattle.std.proofs.Common.{Fits, w8, append-nil}
 use Rattle.lists.specs.Lists.{over, Bytes}
 
 -- what a `&[u8]` is known to hold
@@ -43,6 +43,13 @@ over_past text buffer n e = drop_at text (drop (length text) buffer) n e ∙ ap 
 pub over_at_lem : (text buffer : List ℕ) (i : ℕ) → i < length text → get_or (over text buffer) i 0 ≡ get_or text i 0
 unfolding over
 over_at_lem text buffer i h = get_or-append text (drop (length text) buffer) 0 i h
+
+-- where a buffer's first numbers are written over whole, the buffer is
+pub over_part : (text buffer : List ℕ) (n : ℕ) → length text ≡ n → over text (take n buffer) ++ drop n buffer ≡ over text buffer
+unfolding over
+over_part text buffer n e =
+    let none = drop_of_length-le (take n buffer) {i = length text} (omega (arith, length-take n buffer)) in
+    rw (none, append-nil, e) refl
 
 -- a loop's invariant: the first i numbers of the text stand in the buffer, and the rest is as it was
 pub record Rising (text buffer now : List ℕ) (i : ℕ) : Type 0 where

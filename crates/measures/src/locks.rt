@@ -12,14 +12,14 @@ use super::marks::{marked, measure};
 use outline::fields::is_locked;
 use outline::limits::MOST_RECORDS;
 
-// Marks them, and no other record; what is past the records is unchanged. By number, which tells the mark's place and the record.
+// Marks them, and no other record; what is past the records is unchanged.
 pub fn mark_locked(o: &[u8], marks: &mut [u8])
     requires { size o.now ≤ length marks.old }
     ensures { marks.new ≡ over (locked_set o.now) marks.old }
 {
     let n = o.len() / 16;
-    for i in 0..n {
-        marks[i] = is_locked(o, i + 1) as u8;
+    for (i, mark) in marks[..n].iter_mut().enumerate() {
+        *mark = is_locked(o, i + 1) as u8;
     }
 }
 

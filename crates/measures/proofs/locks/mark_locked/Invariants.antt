@@ -4,4 +4,4 @@ use Rattle.laws.specs.Locks.{locked_set}
 use Rattle.measures.proofs.locks.mark_locked.Given as goal
 
 abbrev pub invariant-loop-i : goal.invariant-loop-i
-invariant-loop-i l = Rising (locked_set l.o) l.initial.marks l.marks l.i
+invariant-loop-i l = Rising (locked_set l.o) l.initial.mark-items l.mark-items l.i
