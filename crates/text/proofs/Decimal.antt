@@ -1,15 +1,16 @@
--- The decimal digits of a number: those that `io::decimal` gives, by a tenth of the number, and how many at most.
+-- The decimal digits of a number are those of the library, for numbers below 2^64, so that its laws of them hold.
 use Prim.Native.Nat.{ℕ, zero, suc, ◌+◌, ◌*◌, ◌-◌, ◌/◌, ◌%◌, ◌^◌, ◌≤◌, ◌<◌}
 use mathlib.Core.Path.{◌≡◌, refl, sym, ap, subst, ◌∙◌}
 use mathlib.Core.Bool.{Bool, true, false}
 use mathlib.Core.List.{List, [], ◌∷◌, ◌++◌}
-use native.Mathlib.Nat.{pow-succ', one-le-pow}
+use native.Mathlib.Nat.{pow-succ'}
 use native.Mathlib.Numerals.{add-one}
 use native.Mathlib.Omega.{arith}
 use lib.ListN.{length, get_or, length-append}
 use lib.Dec.{ltb}
 use borrow.Author.Tests.{lt-ltb, le-ltb, ltb-true, ltb-false}
-use Rattle.io.specs.Digits.{last_digits, IsDigitCount}
+use Rattle.std.specs.Fmt.{decimal as std_decimal}
+use Rattle.std.proofs.lemmas.Fmt.{AppendsLastDigit, decimal_from_appends, length-decimal-le_succ}
 use Rattle.text.specs.Text.{digits_in, decimal}
 
 one_digit : (depth n : ℕ) → n < 10 → digits_in (suc depth) n ≡ (48 + n) ∷ []
@@ -20,35 +21,10 @@ more_digits : (depth n : ℕ) → 10 ≤ n → digits_in (suc depth) n ≡ digit
 unfolding digits_in
 more_digits depth n h = rw (le-ltb n 10 h)
 
-last_digit : (k n : ℕ) → last_digits 10 (suc k) n ≡ last_digits 10 k (n / 10) ++ ((48 + n % 10) ∷ [])
-last_digit k n = let h : n % 10 < 10 = omega arith in rw (lt-ltb (n % 10) 10 h)
-
--- one digit fewer, for a tenth
-fewest_tenth : (k n : ℕ) → IsDigitCount 10 1 n (suc (suc k)) → (10 ≤ n) × IsDigitCount 10 1 (n / 10) (suc k)
-fewest_tenth k n (a, b, d) =
-    let e : suc (suc k) - 1 ≡ suc k = omega arith in
-    let low : 10 ^ suc k ≤ n = rw e at (d (omega arith)) in
-    let up : n < 10 * 10 ^ suc k = rw (pow-succ' 10 (suc k)) at b in
-    let low' : 10 * 10 ^ k ≤ n = rw (pow-succ' 10 k) at low in
-    let some : 1 ≤ 10 ^ k = one-le-pow k 10 (omega arith) in
-    let e' : suc k - 1 ≡ k = omega arith in
-    (omega arith, (omega arith, omega arith, λ _. rw e' (omega arith)))
-
-spelled : (k depth n : ℕ) → n < depth → IsDigitCount 10 1 n k → last_digits 10 k n ≡ digits_in depth n
-spelled zero zero n h f = absurd (omega arith)
-spelled zero (suc depth) n h f = absurd (omega (arith, f.0))
-spelled (suc zero) zero n h f = absurd (omega arith)
-spelled (suc zero) (suc depth) n h f =
-    let e : n % 10 ≡ n = omega (arith, f.1) in
-    last_digit 0 n ∙ rw (e, one_digit depth n f.1)
-spelled (suc (suc k)) zero n h f = absurd (omega arith)
-spelled (suc (suc k)) (suc depth) n h f =
-    let t = fewest_tenth k n f in
-    last_digit (suc k) n ∙ rw (spelled (suc k) depth (n / 10) (omega (arith, t.0)) t.1, more_digits depth n t.0)
-
-pub decimal_spelled : (k n : ℕ) → IsDigitCount 10 1 n k → last_digits 10 k n ≡ decimal n
+pub decimal_is : (n : ℕ) → n < 2 ^ 64 → decimal n ≡ std_decimal n
 unfolding decimal
-decimal_spelled k n f = spelled k (n + 1) n (omega arith) f
+decimal_is n h =
+    decimal_from_appends digits_in (record { one = one_digit; more = more_digits }) (n + 1) n h (length-decimal-le_succ n h)
 
 -- enough depth is enough
 enough : (d e n : ℕ) → n < d → n < e → digits_in d n ≡ digits_in e n

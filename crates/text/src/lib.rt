@@ -6,6 +6,8 @@ ghost use Rattle.std.specs.Prelude.{◌<◌, length};
 ghost use Rattle.text.specs.Text.{decimal, others, line};
 ghost use Rattle.text.specs.Written.{LongEnough, Put};
 
+use itoa::Buffer;
+
 // The place in a buffer where the next text goes.
 #[derive(Drop)]
 pub struct Pen<'a, T> {
@@ -26,14 +28,14 @@ impl<T: Copy> Pen<'_, T> {
 }
 
 impl Pen<'_, u8> {
-    // A number in decimal digits, with no formatter, whose text no contract tells.
+    // A number in decimal digits.
     pub fn put_number(&mut self, n: u64)
         requires { LongEnough (decimal n) self.old }
         ensures { Put (decimal n) self.old self.new }
     {
-        let mut digits = [0u8; 20];
-        let k = io::decimal(n, &mut digits);
-        self.put(&digits[..k]);
+        let mut buffer = Buffer::new();
+        let digits = buffer.format(n).as_bytes();
+        self.put(digits);
     }
 
     // The rest of a line: a blank before each number, then the line end.
