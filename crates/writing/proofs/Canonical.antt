@@ -1,12 +1,11 @@
 -- The one spelling of a tree spells that tree, and no blank, tab or line end is in it.
-use Prim.Native.Nat.{ℕ, ◌+◌, ◌*◌, ◌-◌, ◌/◌, ◌%◌, ◌^◌, ◌≤◌, ◌<◌}
+use Prim.Native.Nat.{ℕ, ◌+◌, ◌*◌, ◌-◌, ◌/◌, ◌%◌, ◌≤◌, ◌<◌}
 use mathlib.Core.Path.{◌≡◌, subst}
 use mathlib.Core.List.{List, [], ◌∷◌, ◌++◌, append_assoc}
 use native.Mathlib.Omega.{arith}
 use lib.ListN.{length}
 use Rattle.text.specs.Text.{decimal}
-use Rattle.text.proofs.Decimal.{decimal_is, decimal_most}
-use Rattle.std.proofs.lemmas.Fmt.{decimal_by_steps, decimal_nonempty}
+use Rattle.text.proofs.Decimal.{decimal_ind, decimal_some, decimal_most}
 use Rattle.newick.specs.Grammar.{Kind, part, Tree, taxon, group, last, more, Word, opening, closing, comma, colon, number}
 use Rattle.newick.specs.Grammar.{Blank, blank, tab, line_feed, carriage_return, a_length, Spelled, a_taxon, a_group, the_last, one_more, most_bytes, Spells}
 use Rattle.newick.specs.Grammar.{opening_bracket, closing_bracket, a_comma, a_colon, a_semicolon}
@@ -20,18 +19,15 @@ digits_then : {a v b : ℕ} {ds : List ℕ} → Digits a ds v → Digit b → Di
 digits_then no_digits d = a_digit d no_digits
 digits_then (a_digit h r) d = a_digit h (digits_then r d)
 
-pub decimal_digits : (n : ℕ) → n < 2 ^ 64 → Digits 0 (decimal n) n
-decimal_digits n h = rw (decimal_is n h) (decimal_by_steps (λ n ds. Digits 0 ds n) one more n h)
-  where
-    one : (n : ℕ) → n < 10 → Digits 0 ((48 + n) ∷ []) n
-    one n h =
-        let e : 10 * 0 + (48 + n - 48) ≡ n = omega arith in
-        subst (Digits 0 ((48 + n) ∷ [])) e (a_digit (record { low = omega arith; high = omega arith }) no_digits)
-
-    more : (n : ℕ) (ds : List ℕ) → 10 ≤ n → Digits 0 ds (n / 10) → Digits 0 (ds ++ ((48 + n % 10) ∷ [])) n
-    more n ds h ih =
-        let e : 10 * (n / 10) + (48 + n % 10 - 48) ≡ n = omega arith in
-        subst (Digits 0 (ds ++ ((48 + n % 10) ∷ []))) e (digits_then ih (record { low = omega arith; high = omega arith }))
+pub decimal_digits : (n : ℕ) → Digits 0 (decimal n) n
+decimal_digits =
+    decimal_ind (λ n ds. Digits 0 ds n)
+    (λ n h.
+    let e : 10 * 0 + (48 + n - 48) ≡ n = omega arith in
+    subst (Digits 0 ((48 + n) ∷ [])) e (a_digit (record { low = omega arith; high = omega arith }) no_digits))
+    (λ n h ih.
+    let e : 10 * (n / 10) + (48 + n % 10 - 48) ≡ n = omega arith in
+    subst (Digits 0 (decimal (n / 10) ++ ((48 + n % 10) ∷ []))) e (digits_then ih (record { low = omega arith; high = omega arith })))
 
 -- its words
 abbrev words_in : {κ : Kind} → Tree κ → List Word
@@ -48,10 +44,7 @@ words_spelled (more t ms) = one_more (words_spelled t) (words_spelled ms)
 
 -- a number before words that begin with no digit, as no mark does
 number_first : {ws : List Word} {s : List ℕ} (v : ℕ) → v ≤ 999999999 → NoDigit s → WordsWritten ws s → WordsWritten (number v ∷ ws) (decimal v ++ s)
-number_first v h n w =
-    let small : v < 2 ^ 64 = omega arith in
-    let some : 1 ≤ length (decimal v) = rw (decimal_is v small) (decimal_nonempty v small) in
-    after_number (decimal_digits v small) some (decimal_most 8 v (omega arith)) n w
+number_first v h n w = after_number (decimal_digits v) (decimal_some v) (decimal_most 8 v (omega arith)) n w
 
 low_mark : {b : ℕ} {s : List ℕ} → b < 48 → NoDigit (b ∷ s)
 low_mark {b} h = before (λ (d : Digit b). omega (arith, d.low))
@@ -109,20 +102,16 @@ digits_dense : {v w : ℕ} {ds : List ℕ} → Digits v ds w → Dense ds
 digits_dense no_digits b i = elim i [ ]
 digits_dense (a_digit d r) b i = let h = d.low in dense_then (omega arith) (digits_dense r) b i
 
-number_dense : (v : ℕ) → v ≤ 999999999 → Dense (decimal v)
-number_dense v h = digits_dense (decimal_digits v (omega arith))
+length_dense : (l : ℕ) → Dense (58 ∷ decimal l)
+length_dense l = dense_then (omega arith) (digits_dense (decimal_digits l))
 
-length_dense : (l : ℕ) → l ≤ 999999999 → Dense (58 ∷ decimal l)
-length_dense l h = dense_then (omega arith) (number_dense l h)
-
-spelling_dense : {κ : Kind} {t : Tree κ} → InRange κ t → Dense (spelling t)
+spelling_dense : {κ : Kind} (t : Tree κ) → Dense (spelling t)
 unfolding spelling
-spelling_dense (taxon_in {p} {l} a b) = dense_both (decimal p) _ (number_dense p a) (length_dense l b)
-spelling_dense (group_in {ms} {l} r b) =
-    dense_then (omega arith) (dense_both (spelling ms) _ (spelling_dense r) (dense_then (omega arith) (length_dense l b)))
-spelling_dense (last_in r) = spelling_dense r
-spelling_dense (more_in {t} {ms} r q) = dense_both (spelling t) _ (spelling_dense r) (dense_then (omega arith) (spelling_dense q))
+spelling_dense (taxon p l) = dense_both (decimal p) _ (digits_dense (decimal_digits p)) (length_dense l)
+spelling_dense (group ms l) = dense_then (omega arith) (dense_both (spelling ms) _ (spelling_dense ms) (dense_then (omega arith) (length_dense l)))
+spelling_dense (last t) = spelling_dense t
+spelling_dense (more t ms) = dense_both (spelling t) _ (spelling_dense t) (dense_then (omega arith) (spelling_dense ms))
 
-pub text_dense : {t : Tree part} → InRange part t → Dense (text_of t)
+pub text_dense : (t : Tree part) → Dense (text_of t)
 unfolding text_of
-text_dense {t} r = dense_both (spelling t) _ (spelling_dense r) (dense_then (omega arith) (λ b i. elim i [ ]))
+text_dense t = dense_both (spelling t) _ (spelling_dense t) (dense_then (omega arith) (λ b i. elim i [ ]))

@@ -27,7 +27,7 @@ use Rattle.outline.proofs.Demands.{checked_gives}
 use Rattle.reading.specs.Demands.{Pair}
 use Rattle.writing.specs.Text.{outline_text, outline_pairs}
 use Rattle.writing.specs.Answer.{Call, Figures, no_figures, numbers_of, told, figures, too_short, judged, reply, text_after, pairs_after, Answered}
-use Rattle.newick.specs.Trees.{unwritable}
+use Rattle.newick.specs.Trees.{tree_of, unwritable}
 use Rattle.writing.specs.Demands.{write_table, WrittenOrRefused, TextGiven, HasRoom}
 use Rattle.writing.proofs.Canonical.{text_spells, text_dense}
 use Rattle.writing.proofs.OwnBytes.{text_most, text_short}
@@ -131,7 +131,7 @@ module _ (c : Call) {r : Reply Figures} {text pairs : List ℕ} (x : Answered c 
         bytes_are = bytes_are;
         text_is = text_is;
         spelled = rw text_is (text_spells (tree_in_range plain) (text_short plain));
-        no_blank = rw text_is (text_dense (tree_in_range plain));
+        no_blank = rw text_is (text_dense (tree_of o));
         text_rest = ap (drop r.figures.bytes) text_now ∙ over_past (outline_text o) c.text r.figures.bytes (sym bytes_are);
         one_each = omega (arith, pairs_count o plain.formed);
         pairs_are = pairs_are;
