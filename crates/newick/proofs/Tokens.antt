@@ -111,20 +111,25 @@ overlong c v (b ∷ s) h = go (is_ascii_digit b) refl h (overlong (suc c) (10 * 
 rest_from : (text : List ℕ) (i : ℕ) → take (length text - i) (drop i text) ≡ drop i text
 rest_from text i = take_all (length text - i) (drop i text) (rw length-drop (omega arith))
 
--- a text's own last bytes, from a place past its first on, are left after a token
-pub met_at : {text : List ℕ} {t : Token} (i : ℕ) → 0 < i → i ≤ length text → tokens_of text ≡ t ∷ tokens_of (drop i text)
-    → Met text t (drop i text)
-met_at {text} i some l e =
+-- what is left of a text from a place on are its own last bytes
+pub last_from : (text : List ℕ) (i : ℕ) → i ≤ length text → drop i text ≡ drop (length text - length (drop i text)) text
+last_from text i h =
     let same : i ≡ length text - length (drop i text) = rw length-drop (omega arith) in
-    record { shows = e; shorter = rw length-drop (omega arith); rest_is = ap (λ n. drop n text) same }
+    ap (λ n. drop n text) same
 
--- the last bytes of a text's last bytes are its own last bytes
-pub last_bytes : (text : List ℕ) (i : ℕ) {rest : List ℕ} → i ≤ length text → length rest ≤ length (drop i text)
-    → rest ≡ drop (length (drop i text) - length rest) (drop i text) → rest ≡ drop (length text - length rest) text
-last_bytes text i {rest} l h e =
-    let left = length-drop i text in
-    let same : i + (length (drop i text) - length rest) ≡ length text - length rest = omega (arith, left) in
-    e ∙ drop-drop (length (drop i text) - length rest) i text ∙ ap (λ n. drop n text) same
+-- and the last bytes of those are its own too
+pub last_of_last : (text rest past : List ℕ) → length rest ≤ length text → length past ≤ length rest
+    → rest ≡ drop (length text - length rest) text → past ≡ drop (length rest - length past) rest
+    → past ≡ drop (length text - length past) text
+last_of_last text rest past h l r p =
+    let same : length text - length rest + (length rest - length past) ≡ length text - length past = omega arith in
+    p ∙ ap (drop (length rest - length past)) r ∙ drop-drop (length rest - length past) (length text - length rest) text
+    ∙ ap (λ n. drop n text) same
+
+-- a token ends before a place past the first byte
+met_at : {text : List ℕ} {t : Token} (i : ℕ) → 0 < i → i ≤ length text → tokens_of text ≡ t ∷ tokens_of (drop i text)
+    → Met text t (drop i text)
+met_at {text} i some h e = record { shows = e; shorter = rw length-drop (omega arith); rest_is = last_from text i h }
 
 -- the first i bytes of a text are digits, which make v
 pub record Counting (text : List ℕ) (i v : ℕ) : Type 0 where
@@ -229,7 +234,7 @@ module _ {text : List ℕ} {i : ℕ} (k : Skipping text i) (h : i < length text)
       record {
         shows = k.whole ∙ q.shows;
         shorter = omega (arith, q.shorter, length-drop i text);
-        rest_is = last_bytes text i (omega arith) (omega (arith, q.shorter)) q.rest_is;
+        rest_is = last_of_last _ _ _ (omega (arith, length-drop i text)) (omega (arith, q.shorter)) (last_from text i (omega arith)) q.rest_is;
       }
 
   pub skipping_meets : {s : Sign} → s ≡ here → (s ≡ Sign.Blank → ⊥) → (s ≡ Sign.Digit → ⊥) → {t : Token} → t ≡ token_of s

@@ -3,6 +3,7 @@
 #![tactic(auto)]
 
 mod answer;
+mod cursor;
 mod draft;
 mod flaw;
 mod pairs;
