@@ -4,19 +4,18 @@ use mathlib.Core.Path.{◌≡◌, refl, sym, ap, subst, ◌∙◌}
 use mathlib.Core.List.{List, [], ◌∷◌}
 use native.Mathlib.Omega.{arith}
 use lib.ListN.{length}
-use Rattle.std.specs.Prelude.{Option, None, Some, Result, Ok, Err, ok_or, MatchResult}
+use Rattle.std.specs.Prelude.{Result, Ok, Err, MatchResult}
 use Rattle.lists.specs.Lists.{over_at}
 use Rattle.lists.proofs.Pieces.{over_nothing}
 use Rattle.newick.specs.Grammar.{Kind, part, chain, Tree, taxon, group, last, more}
 use Rattle.newick.specs.Layout.{count, rows}
 use Rattle.newick.specs.Pairs.{price_in}
 use Rattle.newick.specs.Parsing.{tokens_of, Outcome, failed, got, with_number, with_length, grouped, part_from, joined, chain_then, chain_from, read_in}
-use Rattle.newick.specs.Inner.{Met}
 use Rattle.newick.specs.declared.token.Token.{Token}
 use Rattle.newick.proofs.Layouts.{count_some}
 use Rattle.newick.proofs.Tokens.{by_first}
 use Rattle.outline.specs.Rules.{most_records}
-use Rattle.reading.specs.Inner.{left_of, Begun, Full, Moved, Ended, Lengthened, Cut, Drafted, fields_of, below, record_of, Short, short_failed, short_ended, Stopped, Followed}
+use Rattle.reading.specs.Inner.{left_of, Begun, Full, Moved, Ended, Lengthened, Cut, Drafted, fields_of, below, record_of, Short, short_failed, short_ended}
 use Rattle.reading.specs.Inner.{IfGot, if_failed, if_got, Failed, Unread, unread_bad, unread_many, PartRead, ListRead}
 use Rattle.reading.specs.declared.cursor.Cursor.{Cursor}
 use Rattle.reading.specs.declared.draft.Draft.{Draft}

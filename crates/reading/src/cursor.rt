@@ -1,9 +1,9 @@
-// A place in a text.
+// The place of the readers in a text, lent by `&mut`. The scan has its own by value, in place.rt.
 ghost use Rattle.std.specs.Prelude.{◌≤◌, length};
 ghost use Rattle.outline.specs.Rules.{most_records};
 
 use super::flaw::Flaw;
-use super::part::follow;
+use super::length::follow;
 use newick::token::{Token, first_token};
 use outline::limits::MOST_RECORDS;
 

@@ -6,6 +6,7 @@ mod answer;
 mod cursor;
 mod draft;
 mod flaw;
+mod length;
 mod pairs;
 mod part;
 mod place;
