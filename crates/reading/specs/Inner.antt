@@ -36,12 +36,12 @@ pub record Full (from : Cursor) (flaw : Flaw) : Type 0 where
   pub is : flaw ≡ Flaw.TooMany
   pub full : from.records ≡ most_records
 
--- the next token is passed
+-- the place moves past the next token
 pub record Moved (from to : Cursor) (token : Token) : Type 0 where
   pub met : Met (left_of from) token (left_of to)
   pub records_stay : to.records ≡ from.records
 
--- or there is none
+-- or no token is left
 pub record Ended (from : Cursor) (flaw : Flaw) : Type 0 where
   pub is : flaw ≡ Flaw.Malformed
   pub none : tokens_of (left_of from) ≡ []
@@ -74,7 +74,7 @@ pub record Drafted (k next : ℕ) (p : Part) (from to : Draft) : Type 0 where
 abbrev pub NoNumber : List ℕ → Type 0
 NoNumber text = (made : ℕ → Tree part) → with_number made (tokens_of text) ≡ failed
 
--- or it makes a part of what is one but for its length, and leaves the rest of the text
+-- or it makes a part of what is one but for its length, and leaves the text's own last bytes
 pub record NumberRead (text : List ℕ) (l : ℕ) (rest : List ℕ) : Type 0 where
   pub reads : (made : ℕ → Tree part) → with_number made (tokens_of text) ≡ got (made l) (tokens_of rest)
   pub shorter : length rest < length text
@@ -89,18 +89,18 @@ pub data Short : Outcome part → Type 0 where
 abbrev pub Stopped : List ℕ → Type 0
 Stopped text = (made : ℕ → Tree part) → Short (with_length made (tokens_of text))
 
--- or it has this length, and a token follows
+-- or it has this length, and a token follows, before the text's own last bytes
 pub record Followed (text : List ℕ) (l : ℕ) (token : Token) (rest : List ℕ) : Type 0 where
   pub reads : (made : ℕ → Tree part) → with_length made (tokens_of text) ≡ got (made l) (token ∷ tokens_of rest)
   pub shorter : length rest < length text
   pub rest_is : rest ≡ drop (length text - length rest) text
 
--- and the place moves past that token
+-- the place moves past a length, or none, and the token that follows
 pub record Lengthened (from to : Cursor) (l : ℕ) (token : Token) : Type 0 where
   pub followed : Followed (left_of from) l token (left_of to)
   pub records_stay : to.records ≡ from.records
 
--- or it does not
+-- or there is no such length, or no token after it
 pub record Cut (from : Cursor) (flaw : Flaw) : Type 0 where
   pub is : flaw ≡ Flaw.Malformed
   pub stopped : Stopped (left_of from)
