@@ -2,7 +2,7 @@
 use super::cursor::Cursor;
 use super::pairs::price_in;
 use outline::limits::MOST_RECORDS;
-use records::put_record;
+use records::Record;
 use text::Pen;
 
 // A draft has room for 127 records.
@@ -65,6 +65,13 @@ impl<'a> Draft<'a> {
             buffer: &mut self.bytes,
             at: 16 * k,
         };
-        put_record(&mut pen, next, part.first, part.length, price, part.plate);
+        let record = Record {
+            next,
+            first: part.first,
+            branch: part.length,
+            price,
+            plate: part.plate,
+        };
+        record.put(&mut pen);
     }
 }
