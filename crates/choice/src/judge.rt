@@ -31,18 +31,18 @@ pub fn judge(
     ensures { told result ≡ judged
         (call outline.now count way marks.now curve.now work.now) }
 {
-    if (way != 0) & (way != 1) {
+    if way != 0 && way != 1 {
         return Err(Refusal::UnknownWay);
     }
     check_size(outline)?;
-    if MOST_COUNT < count {
+    if count > MOST_COUNT {
         return Err(Refusal::CountTooLarge);
     }
     check_records(outline)?;
     let marks_short = marks.len() < outline.len() / 16;
     let curve_short = curve.len() < 2 * (count as usize + 1);
     let work_short = work.len() < work_taken(outline, count);
-    if marks_short | (curve_short | work_short) {
+    if marks_short || curve_short || work_short {
         return Err(Refusal::BufferTooShort);
     }
     if count < locked_cost(outline) {
