@@ -1,6 +1,6 @@
 // Rows of candidates in lent memory, written column by column.
-// The memory and the width go along as two parameters. In a struct of both, tried with two of these functions, a caller knows of a
-// method with `&mut self` only what its contract says: each would say also that the width and the borrow stay as they are.
+// The memory and the width go along as two parameters. A struct of both, tried with two of these functions, is no plainer: it spares each
+// call one argument, and each contract, here and in table, has to add that the width and the borrow stay, as each text of a pen does.
 ghost use Rattle.std.specs.Prelude.{◌≡◌, ◌+◌, ◌*◌, ◌<◌, ◌≤◌, length};
 ghost use Rattle.laws.specs.Candidate.{none, better_of};
 ghost use Rattle.cells.specs.Cells.{view, cell};
@@ -136,8 +136,8 @@ fn follower(work: &[u64], x: usize, y: usize, b: usize, width: usize) -> Candida
     read(work, x + b).better(other)
 }
 
-// What `join_row` makes a row of: what stands in a column of the row at `own`, below groups that cost `above`, joined with the better
-// of the rows at `x` and `y` for what the cost leaves, and else the row at `z`.
+// What `join_row` makes a column of: what stands in that column of the row at `own`, below groups that cost `above`, joined with the
+// better of the rows at `x` and `y` for what the cost leaves; or else the row at `z`.
 #[derive(Clone, Copy)]
 pub struct Join {
     pub own: usize,
@@ -148,7 +148,7 @@ pub struct Join {
     pub z: usize,
 }
 
-// Makes each column from the cost on the better of two, the join and the row at `z`. The row that is written may be the one at `own`.
+// Makes each column from the cost on the better of the join and the row at `z`. The row that is written may be the one at `own`.
 pub fn join_row(work: &mut [u64], to: usize, join: Join, width: usize)
     requires { Joins work.old to join.own join.above join.cost join.x join.y join.z width }
     ensures { Joining to join.own join.above join.cost join.x join.y join.z width work.old work.new }

@@ -19,7 +19,7 @@ use Rattle.laws.specs.Candidate.{Value, none, some}
 use Rattle.laws.specs.Locks.{locks}
 use Rattle.laws.specs.Numbers.{decode, worth}
 use Rattle.laws.proofs.Sums.{total_ext, total_most}
-use Rattle.laws.proofs.Optimum.{search_ends, optimum_set, shown_diversity, shown_cost, blank_exactly}
+use Rattle.laws.proofs.Optimum.{search_ends, optimum_set, blank_exactly}
 use Rattle.laws.proofs.Numbers.{decode_code}
 use Rattle.rows.specs.Rows.{top_row}
 use Rattle.rows.proofs.TopRow.{Tells, top_row_lem}

@@ -31,7 +31,10 @@ pub fn write_curve(work: &[u64], width: usize, locks: u64, curve: &mut [u32])
         ≡ over (columns (top_diversity work.now width locks) (top_cost work.now width locks) (from 0 width))
         curve.old }
 {
-    let mut pen = Pen { buffer: curve, at: 0 };
+    let mut pen = Pen {
+        buffer: curve,
+        at: 0,
+    };
     for b in 0..width {
         pen.put(&column_of(best_at(work, width, b), locks));
     }

@@ -1,29 +1,29 @@
 -- The weight of a record: a power of 2, by the taxa after it counted.
 use Prim.Native.Nat.{ℕ, zero, suc, ◌+◌, ◌-◌, ◌^◌, ◌<◌}
-use mathlib.Core.Path.{◌≡◌, refl}
+use mathlib.Core.Path.{◌≡◌, refl, ap, ◌∙◌}
 use mathlib.Core.Logic.{inl, inr}
 use mathlib.Core.Bool.{Bool, true, false, cond}
-use mathlib.Core.List.{List, ◌∷◌}
+use mathlib.Core.List.{List}
 use native.Mathlib.Omega.{arith}
-use lib.ListN.{length}
 use lib.Pow.{pow_mono}
-use Rattle.std.specs.List.{filter, range_with_len}
+use Rattle.std.specs.List.{count_by, range_with_len}
 use Rattle.std.proofs.lemmas.Bool.{cases_lt}
+use Rattle.std.proofs.lemmas.List.Sums.{sum_by-cons}
 use Rattle.lists.specs.Lists.{one, from, total}
 use Rattle.outline.specs.Outline.{size, is_taxon}
 use Rattle.outline.specs.Rules.{taxa_in}
 
 -- what passes a test, counted
-passed : (p : ℕ → Bool) (k n : ℕ) → length (filter p (range_with_len k n)) ≡ total (λ r. one (p r)) (from k n)
+passed : (p : ℕ → Bool) (k n : ℕ) → count_by p (range_with_len k n) ≡ total (λ r. one (p r)) (from k n)
 unfolding from total
 passed p k zero = refl
-passed p k (suc n) = go (p k) _ (passed p (k + 1) n)
+passed p k (suc n) = sum_by-cons (λ r. cond (p r) 1 0) k (range_with_len (k + 1) n) ∙ go (p k) (passed p (k + 1) n)
   where
-    go : (b : Bool) (xs : List ℕ) {m : ℕ} → length xs ≡ m → length (cond b (k ∷ xs) xs) ≡ one b + m
-    go true xs e = omega (arith, e)
-    go false xs e = omega (arith, e)
+    go : {i j : ℕ} (b : Bool) → i ≡ j → cond b 1 0 + i ≡ one b + j
+    go true e = ap (λ m. 1 + m) e
+    go false e = ap (λ m. 0 + m) e
 
-pub taxa_passed : (o : List ℕ) (r : ℕ) → length (filter (is_taxon o) (range_with_len (r + 1) (size o - r))) ≡ taxa_in o (from (r + 1) (size o - r))
+pub taxa_passed : (o : List ℕ) (r : ℕ) → count_by (is_taxon o) (range_with_len (r + 1) (size o - r)) ≡ taxa_in o (from (r + 1) (size o - r))
 unfolding taxa_in
 taxa_passed o r = passed (is_taxon o) (r + 1) (size o - r)
 

@@ -1,4 +1,5 @@
-// Pushing a row through the chain of a record.
+// Pushing a row through the chain of a record. The two rows of record r begin at `2 * ((r + 1) * width)`, here and in spread.rt, written
+// out: what a function gives stands in each fact as its result, and some twenty answers would have to put the product in its place.
 ghost use Rattle.outline.specs.Outline.{IsRecord, branch, price};
 ghost use Rattle.cells.specs.Memory.{Betters, Charges, Charging};
 ghost use Rattle.table.specs.Table.{Pushable, Pushed, Followed};
@@ -7,9 +8,7 @@ use super::taxa::{join_terminal, terminal_row};
 use cells::memory::{better_rows, charge_row};
 use outline::fields::{branch_of, first_of, next_of, price_of};
 
-// Charges the row at `to` with the heading of record r, in place; each column then is the better of that and the rest's. It is inlined,
-// so that a call with a 0 for the rest has a loop of its own.
-#[inline(always)]
+// Charges the row at `to` with the heading of record r, in place; each column then is the better of that and the rest's.
 pub fn charge_heading(o: &[u8], r: usize, to: usize, rest: usize, width: usize, work: &mut [u64])
     requires is_record { IsRecord o.now r }
     requires charges { Charges work.old to (branch o.now r) (price o.now r) rest width }

@@ -5,7 +5,7 @@ ghost use Rattle.table.specs.Spread.{Running, Spreadable, Spread, BySingle, ByPa
 
 use super::push::{charge_heading, push};
 use super::taxa::{join_terminal, taxon_of, terminal_row};
-use cells::memory::{better_by, better_rows, charge_from, join_row, Join};
+use cells::memory::{Join, better_by, better_rows, charge_from, join_row};
 use outline::fields::{first_of, is_locked, next_of, price_of};
 
 // Betters the running optimum by taxon r alone, below groups that cost `above` together. It has no diversity, so that it is better
@@ -43,7 +43,14 @@ fn better_by_pairs(
     if rest != 0 {
         let cost = above + price_of(o, r) as usize;
         let top = 2 * width;
-        let pairs = Join { own, above, cost, x: rest, y: 0, z: top };
+        let pairs = Join {
+            own,
+            above,
+            cost,
+            x: rest,
+            y: 0,
+            z: top,
+        };
         join_row(work, top, pairs, width);
     }
 }
@@ -68,7 +75,8 @@ fn spread_taxon(
     join_terminal(o, r, width, rest, to, width, work);
 }
 
-// Something in the clade of group r with something in the rest of its chain: either side can be pushed over the other.
+// Something in the clade of group r with something in the rest of its chain: either side can be pushed over the other. Which of the two
+// is a `bool` here and no test at the caller, where the two ways would meet: each later fact of the memory would be of one of two.
 fn cross(o: &[u8], r: usize, by_members: bool, to: usize, width: usize, work: &mut [u64])
     requires { Crossable o.now r to width work.old }
     ensures { Crossed o.now r to width work.old work.new }

@@ -8,17 +8,19 @@ ghost use Rattle.table.specs.Table.{IsTaxon, taxon_worth, TerminalFills, Termina
 ghost use Rattle.outline.specs.Outline.{IsRecord};
 
 use cells::candidate::Candidate;
-use cells::memory::{add_row, fill_row, join_row, read, Join};
+use cells::memory::{Join, add_row, fill_row, join_row, read};
 use outline::fields::{branch_of, is_locked, is_taxon, price_of};
 
-// 2 to the number of taxa after record r. The range is half open, as those that std's lemmas on chains begin with.
+// 2 to the number of taxa after record r. Summed, since with `filter` and `count` all of choosing took 1.1 times as long at page count 96.
+// The range is half open, as those are with which std's lemmas on chains begin.
 fn weight_of(o: &[u8], r: usize) -> u64
     requires is_record { IsRecord o.now r }
     requires weight_fits { weight o.now r < word_limit }
     ensures { result ≡ weight o.now r }
 {
     let n = o.len() / 16;
-    1 << (r + 1..n + 1).filter(|q| is_taxon(o, *q)).count()
+    let taxa: u64 = (r + 1..n + 1).map(|q| is_taxon(o, q) as u64).sum();
+    1 << taxa
 }
 
 // Taxon r by itself, at the diversity and the cost that it has.
@@ -55,9 +57,33 @@ fn join_rest(work: &mut [u64], to: usize, price: usize, x: usize, y: usize, widt
 {
     let (own, above, cost) = (to, 0, price);
     if y == 0 {
-        join_row(work, to, Join { own, above, cost, x, y: 0, z: 0 }, width);
+        join_row(
+            work,
+            to,
+            Join {
+                own,
+                above,
+                cost,
+                x,
+                y: 0,
+                z: 0,
+            },
+            width,
+        );
     } else {
-        join_row(work, to, Join { own, above, cost, x, y, z: y }, width);
+        join_row(
+            work,
+            to,
+            Join {
+                own,
+                above,
+                cost,
+                x,
+                y,
+                z: y,
+            },
+            width,
+        );
     }
 }
 
