@@ -70,22 +70,20 @@ pub fn order_by_call(rt: &(impl Print + AllocGlobal)) -> io::Result<()> {
 pub fn order_by_outline(rt: &(impl Print + AllocGlobal)) -> io::Result<()> {
     let alike = tree_a().with(3, [4, 0, 4, 3, 12]);
     let field = alike.with(5, [6, 0, 5, 65536, 13]);
-    Call::new(field.bytes(), 5, 0).with(NOTHING).case(
-        rt,
-        "a bad field in record 5, a bad link there, plates alike",
-    )?;
     let link = alike.with(5, [6, 0, 5, 2, 13]);
-    Call::new(link.bytes(), 5, 0)
-        .with(NOTHING)
-        .case(rt, "a bad link in record 5, plates alike")?;
     let many = star(66, 3, 1).with(66, [0, 0, 3, 1, 65]);
-    Call::new(many.bytes(), 5, 0)
-        .with(NOTHING)
-        .case(rt, "65 taxa, plates alike")?;
-    Call::new(alike.bytes(), 5, 0)
-        .with(NOTHING)
-        .case(rt, "plates alike")?;
-    Call::new(tree_a().bytes(), 5, 1)
-        .with(NOTHING)
-        .case(rt, "only the buffers are too short")
+    for (label, o, way) in [
+        (
+            "a bad field in record 5, a bad link there, plates alike",
+            field,
+            0,
+        ),
+        ("a bad link in record 5, plates alike", link, 0),
+        ("65 taxa, plates alike", many, 0),
+        ("plates alike", alike, 0),
+        ("only the buffers are too short", tree_a(), 1),
+    ] {
+        Call::new(o.bytes(), 5, way).with(NOTHING).case(rt, label)?;
+    }
+    Ok(())
 }

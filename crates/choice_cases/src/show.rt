@@ -114,51 +114,47 @@ impl<'a> Call<'a> {
         Self { sizes, ..self }
     }
 
+    // What is printed of a selection, and how many bytes and numbers of the buffers it writes.
+    fn chosen(self, rt: &impl Print, figures: Figures, lent: &Buffers) -> io::Result<Sizes> {
+        let Figures {
+            diversity,
+            cost,
+            taxa,
+            spare,
+        } = figures;
+        let written = Sizes {
+            marks: self.outline.len() / 16,
+            curve: 2 * (self.count as usize + 1),
+            work: lent.work.iter().take_while(|x| **x == 0).count(),
+        };
+        print!(rt;
+            "0 0 {diversity} {cost} {taxa} {spare}, marks {}",
+            Marks(front(&lent.marks, written.marks))
+        )?;
+        print!(rt;
+            ", curve{}, work {}",
+            Curve(front(&lent.curve, written.curve)),
+            written.work
+        )?;
+        Ok(written)
+    }
+
     // The part of its line that has the answer.
     fn answer(self, rt: &(impl Print + AllocGlobal)) -> io::Result<()> {
-        let Self {
-            outline,
-            count,
-            way,
-            sizes,
-        } = self;
-        let mut lent = Buffers::new(rt.alloc(), sizes)?;
+        let mut lent = Buffers::new(rt.alloc(), self.sizes)?;
         let answer = choose(
-            outline,
-            count,
-            way,
+            self.outline,
+            self.count,
+            self.way,
             &mut lent.marks,
             &mut lent.curve,
             &mut lent.work,
         );
         let written = match answer {
+            Ok(figures) => self.chosen(rt, figures, &lent)?,
             Err(refusal) => {
                 print!(rt; "{}", Refused(refusal))?;
                 NOTHING
-            }
-            Ok(
-                Figures {
-                    diversity,
-                    cost,
-                    taxa,
-                    spare,
-                },
-            ) => {
-                let written = Sizes {
-                    marks: outline.len() / 16,
-                    curve: 2 * (count as usize + 1),
-                    work: lent.work.iter().take_while(|x| **x == 0).count(),
-                };
-                print!(rt;
-                    "0 0 {diversity} {cost} {taxa} {spare}, marks {}",
-                    Marks(front(&lent.marks, written.marks))
-                )?;
-                print!(rt;
-                    ", curve{}, work {}",
-                    Curve(front(&lent.curve, written.curve)),
-                    written.work
-                )?;
-                written
             }
         };
         println!(rt; ", wrong {}", lent.wrong(written))
