@@ -9,4 +9,4 @@ mod locks;
 mod marks;
 
 pub use locks::{locked_cost, locks_of, mark_locked};
-pub use marks::{marked, measure};
+pub use marks::{is_chosen, marked, measure};
