@@ -94,8 +94,8 @@ module _ {o : List ℕ} {r : ℕ} {s : List ℕ} {all : ℕ} {members : Measure}
 
 -- ---- a chain
 module _ {o : List ℕ} {s : List ℕ} {all : ℕ} where
-  pub no_chain : {r : ℕ} (m : Measure) → r ≡ 0 → (m.taxa ≡ 0) × (m.cost ≡ 0) × (m.diversity ≡ 0) → ChainMeasured o r s all m
-  no_chain m z (taxa, cost, diversity) = rw (z, tree_zero o) (record { taxa_is = taxa; cost_is = cost; diversity_is = diversity })
+  pub no_chain : {r : ℕ} (m : Measure) → r ≡ 0 → (m.taxa ≡ 0) × ((m.cost ≡ 0) × (m.diversity ≡ 0)) → ChainMeasured o r s all m
+  no_chain m z (taxa, (cost, diversity)) = rw (z, tree_zero o) (record { taxa_is = taxa; cost_is = cost; diversity_is = diversity })
 
   module _ {r : ℕ} (base : Measurable o s) (l : 1 ≤ r) (u : r ≤ size o) {own rest : Measure}
       (first_is : CladeMeasured o r s all own) (next_is : ChainMeasured o (next o r) s all rest) where

@@ -8,6 +8,7 @@ ghost use Rattle.quick.specs.Inner.{pick_of, KnownAt, HandAt, LookAt, LookedAt, 
 
 use super::sums::Sums;
 use super::ways::Ways;
+use measures::is_chosen;
 use outline::fields::is_taxon;
 
 // A taxon to be picked, and the quarters that it adds.
@@ -22,7 +23,7 @@ fn can_pick(o: &[u8], marks: &[u8], room: u32, sums: &Sums, t: usize) -> bool
     requires { KnownAt o.now marks.now sums.now t }
     ensures { result ≡ can_pick o.now (cost o.now marks.now + room) marks.now t }
 {
-    let open = marks[t - 1] != 1;
+    let open = !is_chosen(marks, t);
     is_taxon(o, t) & (open & ((sums.costs[t] <= room) & (0 < sums.added[t])))
 }
 
@@ -33,9 +34,10 @@ fn in_hand(o: &[u8], marks: &[u8], room: u32, sums: &Sums, hand: usize, t: usize
     ensures { result ≡ in_hand o.now (cost o.now marks.now + room) marks.now hand t }
 {
     if can_pick(o, marks, room, sums, t) & ((hand == 0) | sums.rather(t, hand)) {
-        return t;
+        t
+    } else {
+        hand
     }
-    hand
 }
 
 // Looks at record r: what it would add, and whether it is taken in hand. One that is held adds nothing, and is passed over.
@@ -75,7 +77,7 @@ pub fn next_pick(o: &[u8], marks: &[u8], ways: &Ways, room: u32) -> Option<Pick>
     requires { HasHeld o.now marks.now ways.now }
     ensures { result ≡ pick_of o.now marks.now (picked o.now (cost o.now marks.now + room) marks.now) }
 {
-    let mut sums = Sums::none();
+    let mut sums = Sums::default();
     let taxon = look_at_all(o, marks, ways, room, &mut sums);
     if taxon == 0 {
         return None;

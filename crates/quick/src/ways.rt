@@ -3,6 +3,7 @@ ghost use Rattle.std.specs.Prelude.{◌≡◌};
 ghost use Rattle.outline.specs.WellFormed.{WellFormed};
 ghost use Rattle.quick.specs.Inner.{Parents, Rising, Joined, Markable, HasHeld};
 
+use measures::is_chosen;
 use outline::fields::{first_of, next_of};
 use outline::limits::NUMBERS;
 
@@ -42,8 +43,7 @@ impl Ways {
             held: [false; NUMBERS],
         };
         for r in 1..=o.len() / 16 {
-            // the marks are bytes, as the C interface lends them
-            if marks[r - 1] == 1 {
+            if is_chosen(marks, r) {
                 ways.hold(r);
             }
         }

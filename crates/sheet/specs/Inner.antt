@@ -28,11 +28,6 @@ no_place = most_records
 unfoldable pub place_of : List ℕ → ℕ → ℕ
 place_of s r = if chosen s r then r - 1 else no_place
 
--- r is the number of a mark
-pub record HasMark (s : List ℕ) (r : ℕ) : Type 0 where
-  pub low : 1 ≤ r
-  pub high : r ≤ length s
-
 -- a test of the taxa up to record k holds from place x on: as soon as k is past it, and not before
 pub record Since (x : ℕ) (holds : ℕ → Bool) : Type 0 where
   pub most : x ≤ no_place

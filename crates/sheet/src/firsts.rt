@@ -1,8 +1,9 @@
 // The first taxon of a set in each chain, by its place.
 ghost use Rattle.std.specs.Prelude.{◌≡◌};
-ghost use Rattle.measures.specs.Measures.{Measurable};
-ghost use Rattle.sheet.specs.Inner.{place_of, HasMark, Since, price_counts, AtRecord, Firsts};
+ghost use Rattle.measures.specs.Measures.{HasMark, Measurable};
+ghost use Rattle.sheet.specs.Inner.{place_of, Since, price_counts, AtRecord, Firsts};
 
+use measures::is_chosen;
 use outline::fields::{first_of, next_of};
 use outline::limits::{MOST_RECORDS, NUMBERS};
 
@@ -14,10 +15,7 @@ pub fn place_of(set: &[u8], r: usize) -> usize
     requires { HasMark set.now r }
     ensures { result ≡ place_of set.now r }
 {
-    if set[r - 1] == 1 {
-        return r - 1;
-    }
-    NONE
+    if is_chosen(set, r) { r - 1 } else { NONE }
 }
 
 // From which place on the price of record r counts: that of the first taxon at or below it.

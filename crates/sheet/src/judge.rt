@@ -16,8 +16,11 @@ fn is_bad(o: &[u8], marks: &[u8], r: usize) -> bool
     requires { IsRecord o.now r × (size o.now ≤ length marks.now) }
     ensures { result ≡ bad_mark o.now marks.now r }
 {
-    let mark = marks[r - 1];
-    (1 < mark) | ((mark == 1) & !is_taxon(o, r))
+    match marks[r - 1] {
+        0 => false,
+        1 => !is_taxon(o, r),
+        _ => true,
+    }
 }
 
 // The lowest record with such a mark, if there is one.
@@ -32,7 +35,7 @@ fn bad_mark_at(o: &[u8], marks: &[u8]) -> Option<usize>
 pub fn judge(outline: &[u8], way: u32, marks: &[u8], sheet: &[u32]) -> Result<(), Refusal>
     ensures { told result ≡ judged (call outline.now way marks.now sheet.now) }
 {
-    if (way != 0) & (way != 1) {
+    if way != 0 && way != 1 {
         return Err(Refusal::UnknownWay);
     }
     check(outline)?;

@@ -10,7 +10,7 @@ use super::answer::Figures;
 use super::firsts::firsts_of;
 use super::judge::judge;
 use super::tables::{diversity_of, quarters_of};
-use measures::measure;
+use measures::{is_chosen, measure};
 use outline::fields::plate_of;
 use outline::limits::NUMBERS;
 use refusals::Refusal;
@@ -28,7 +28,7 @@ fn put_row(
     requires { RowFits o.now set.now r quarters.now diversity.now pen.old }
     ensures { Put (row_in o.now set.now quarters.now diversity.now r) pen.old pen.new }
 {
-    if set[r - 1] == 1 {
+    if is_chosen(set, r) {
         pen.put(&[plate_of(o, r), quarters[r - 1], diversity[r - 1]]);
     }
 }

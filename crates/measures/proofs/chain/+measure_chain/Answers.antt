@@ -4,7 +4,7 @@ use Rattle.measures.proofs.Parts.{no_chain, parts_addable, chain_measured}
 use Rattle.measures.proofs.chain.+measure_chain.Goals as goal
 
 pub returns-then-r-eq0 : goal.returns-then-r-eq0
-returns-then-r-eq0 t c = no_chain _ c.if-r-eq0.true c.default.ensures
+returns-then-r-eq0 t c = no_chain c.default.result c.if-r-eq0.true c.default.ensures
 
 pub measure_chain-members-requires : goal.measure_chain-members-requires
 measure_chain-members-requires t c =
