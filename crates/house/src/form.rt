@@ -8,7 +8,6 @@ ghost use Rattle.house.specs.Answer.{call, Answered};
 ghost use Rattle.house.specs.Inner.{RecordFits, ChainFits, ChainWritten, FormFits};
 
 use super::chains::Chains;
-use super::plates::smallest_plates;
 use outline::checker::check_with_room;
 use outline::fields::{branch_of, plate_field_of, price_of};
 use records::put_record;
@@ -62,8 +61,7 @@ pub fn write_form(o: &[u8], form: &mut [u8])
     requires { FormFits o.now form.old }
     ensures { form.new ≡ over (house_form o.now) form.old }
 {
-    let plates = smallest_plates(o);
-    let chains = Chains::of(o, &plates);
+    let chains = Chains::of(o);
     write_chain(o, &chains, 1, 1, form);
 }
 
