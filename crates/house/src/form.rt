@@ -42,7 +42,8 @@ fn put_at(o: &[u8], r: usize, k: usize, next: usize, first: usize, form: &mut [u
 }
 
 // Writes the ordered chain that begins at record r, each record before its members, the first of them as record k; gives the number after
-// the last.
+// the last. The number goes along, and no pen: a record is written after its members and the rest of its chain, once both of its links are
+// known, and so to a place before what is written already.
 fn write_chain(o: &[u8], chains: &Chains, r: usize, k: usize, form: &mut [u8]) -> usize
     requires { ChainFits o.now chains.now r k form.old }
     ensures { ChainWritten o.now chains.now r k form.old form.new result }

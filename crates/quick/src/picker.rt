@@ -27,8 +27,8 @@ fn can_pick(o: &[u8], marks: &[u8], room: u32, sums: &Sums, t: usize) -> bool
     is_taxon(o, t) & (open & ((sums.costs[t] <= room) & (0 < sums.added[t])))
 }
 
-// The record in hand, after record t was looked at; 0 for none, as in the definition: with an `Option<usize>` each clause would say
-// `nonzero (in_hand .. (unwrap_or hand 0) t)` for `in_hand .. hand t`. With an `Option<Pick>` 64 picks took 1.2 times as long.
+// The record in hand, after record t was looked at; 0 for none, as in the definition, which folds over numbers. With an `Option<Pick>`, which
+// each turn hands on as three words, 64 picks took 1.2 times as long.
 fn in_hand(o: &[u8], marks: &[u8], room: u32, sums: &Sums, hand: usize, t: usize) -> usize
     requires { HandAt o.now marks.now sums.now hand t }
     ensures { result ≡ in_hand o.now (cost o.now marks.now + room) marks.now hand t }

@@ -11,7 +11,8 @@ use outline::check;
 use outline::fields::is_taxon;
 use refusals::Refusal;
 
-// Whether the mark of record r is neither 0 nor 1, or 1 at a group.
+// Whether the mark of record r is neither 0 nor 1, or 1 at a group. That each record has a mark is asked here and below: it is a fact of two
+// slices, which a type of either could not tell.
 fn is_bad(o: &[u8], marks: &[u8], r: usize) -> bool
     requires { IsRecord o.now r × (size o.now ≤ length marks.now) }
     ensures { result ≡ bad_mark o.now marks.now r }
@@ -39,6 +40,7 @@ pub fn judge(outline: &[u8], way: u32, marks: &[u8], sheet: &[u32]) -> Result<()
         return Err(Refusal::UnknownWay);
     }
     check(outline)?;
+    // at no record, so with place 0: with a variant for it, or with an `Option`, two refusals would be told by the same two numbers
     if marks.len() < outline.len() / 16 {
         return Err(Refusal::BadMarks(0));
     }
