@@ -8,7 +8,6 @@ ghost use Rattle.house.specs.Answer.{call, Answered};
 ghost use Rattle.house.specs.Inner.{RecordFits, ChainFits, ChainWritten, FormFits};
 
 use super::chains::Chains;
-use super::plates::smallest_plates;
 use outline::checker::check_with_room;
 use outline::fields::{branch_of, plate_field_of, price_of};
 use records::Record;
@@ -43,7 +42,8 @@ fn put_at(o: &[u8], r: usize, k: usize, next: usize, first: usize, form: &mut [u
 }
 
 // Writes the ordered chain that begins at record r, each record before its members, the first of them as record k; gives the number after
-// the last.
+// the last. The number goes along, and no pen: a record is written after its members and the rest of its chain, once both of its links are
+// known, and so to a place before what is written already.
 fn write_chain(o: &[u8], chains: &Chains, r: usize, k: usize, form: &mut [u8]) -> usize
     requires { ChainFits o.now chains.now r k form.old }
     ensures { ChainWritten o.now chains.now r k form.old form.new result }
@@ -62,8 +62,7 @@ pub fn write_form(o: &[u8], form: &mut [u8])
     requires { FormFits o.now form.old }
     ensures { form.new ≡ over (house_form o.now) form.old }
 {
-    let plates = smallest_plates(o);
-    let chains = Chains::of(o, &plates);
+    let chains = Chains::of(o);
     write_chain(o, &chains, 1, 1, form);
 }
 
