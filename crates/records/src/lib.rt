@@ -6,14 +6,18 @@ ghost use Rattle.records.specs.Bytes.{bytes_of};
 
 use text::Pen;
 
-// The fields of a record: the links to the next of its chain and to its first member, 0 for none, its branch length, its price, and its
-// plate with or without a lock. It holds no outline, so that a clause names its fields as the definitions do.
+// The fields of a record. It holds no outline, so that a clause names its fields as the definitions do.
 #[derive(Clone, Copy, Debug, PartialEq, Eq)]
 pub struct Record {
+    // The next record of its chain, 0 for none.
     pub next: usize,
+    // Its first member, 0 for none.
     pub first: usize,
+    // The length of its branch.
     pub branch: u32,
+    // Its price.
     pub price: u32,
+    // Its plate, with or without a lock.
     pub plate: u32,
 }
 

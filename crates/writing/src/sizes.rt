@@ -30,7 +30,8 @@ fn own_bytes(o: &[u8], r: usize) -> usize
     }
 }
 
-// The bytes of all records. The range ends before `size + 1`, as std tells what list such a range gives, and not that of `..=`.
+// The bytes of all records, of an outline of which no more is asked than that these are few, which bounds the sum. The range ends before
+// `size + 1`, as std tells what list such a range gives, and not that of `..=`.
 pub fn bytes_of(o: &[u8]) -> usize
     requires { size o.now ≤ most_records }
     ensures { result ≡ total (own_bytes o.now) (records o.now) }
