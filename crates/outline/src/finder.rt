@@ -10,10 +10,8 @@ use super::rules::holder_of;
 pub fn find_record(outline: &[u8], plate: u32) -> Option<usize>
     ensures { result ≡ nonzero (found_at outline.now plate) }
 {
-    match check(outline) {
-        Err(_) => None,
-        Ok(()) => holder_of(outline, plate, outline.len() / 16),
-    }
+    check(outline).ok()?;
+    holder_of(outline, plate, outline.len() / 16)
 }
 
 // The 16 bytes of that record, as a part of the outline. Document 01 asks for an empty part if there is none.

@@ -1,4 +1,6 @@
-// The conditions of refusals 5 to 8, record by record. Why outline and record are no struct stands in fields.rt.
+// The conditions of refusals 5 to 8, record by record. Why outline and record are no struct stands in fields.rt. Here and in the crates
+// above, conditions are joined by `|` and `&`, which give one value and one goal: with `||` and `&&` each part is a path of its own, with
+// a goal of its own, and a value where the paths meet is no longer an equation of all parts.
 ghost use Rattle.std.specs.Prelude.{◌≡◌, ◌≤◌, ◌<◌, get_or};
 ghost use Rattle.lists.specs.Lists.{from, lowest as lowest_of, nonzero};
 ghost use Rattle.outline.specs.Inner.{counted, Tally};
@@ -30,7 +32,8 @@ fn is_stray(o: &[u8], r: usize, link: usize) -> bool
     (link != 0) & ((link <= r) | (o.len() / 16 < link))
 }
 
-// Adds one to the count of a link; a number that no record can have has no count.
+// Adds one to the count of a link; a number that no record can have has no count. By index: of what is written through `get_mut` of a slice
+// a proof knows the length alone.
 fn count_link(counts: &mut [u16; NUMBERS], link: usize)
     requires { get_or counts.old link 0 < 65535 }
     ensures { counts.new ≡ counted link counts.old }

@@ -21,10 +21,10 @@ fn by_two(pairs: &[u32]) -> &[[u32; 2]]
 pub fn price_in(pairs: &[u32], plate: u32) -> u32
     ensures { result ≡ price_in pairs.now plate }
 {
-    match by_two(pairs).iter().find(|pair| pair[0] == plate) {
-        Some(pair) => pair[1],
-        None => 0,
-    }
+    by_two(pairs)
+        .iter()
+        .find(|pair| pair[0] == plate)
+        .map_or(0, |pair| pair[1])
 }
 
 // How many pairs a plate has.

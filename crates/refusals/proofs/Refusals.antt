@@ -1,5 +1,5 @@
 -- The numbers of refusals, and rows of a table of which none is given.
-use Rattle.std.specs.Prelude.{if◌then◌else◌, Option, Some, None, Result, Ok, Err, IsErrAnd}
+use Rattle.std.specs.Prelude.{if◌then◌else◌, Option, Some, None, Result, Ok, Err, is_ok, IsErrAnd}
 use Rattle.std.proofs.lemmas.Result.{err_from_is_err_and}
 use Prim.Native.Nat.{ℕ, suc, ◌≤◌}
 use mathlib.Core.Path.{◌≡◌, refl, sym, ap, ◌∙◌}
@@ -32,6 +32,18 @@ refusal_numbered Refusal.TooManyPicks = omega arith
 
 pub refusal_not_zero : (e : Refusal) → eqb (refusal e).number 0 ≡ false
 refusal_not_zero e = ne_eqb (refusal e).number 0 (λ z. omega (arith, refusal_numbered e))
+
+-- rows that pass have the number 0, and a refusal has not
+pub passed_zero : {t : Ruling} → passed ≡ t → t.number ≡ 0
+passed_zero e = ap (λ (t : Ruling). t.number) (sym e)
+
+pub refused_not_zero : (e : Refusal) {t : Ruling} → refusal e ≡ t → eqb t.number 0 ≡ false
+refused_not_zero e h = ap (λ (t : Ruling). eqb t.number 0) (sym h) ∙ refusal_not_zero e
+
+-- what a judge tells has the number 0 exactly if it answers no refusal
+pub zero_if_ok : (r : Result Unit Refusal) → eqb (told r).number 0 ≡ is_ok r
+zero_if_ok (Ok _) = refl
+zero_if_ok (Err e) = refusal_not_zero e
 
 -- the refusal that has a number and a place
 refusal_at : Ruling → Refusal
@@ -85,7 +97,7 @@ told_determined (Err d) (Ok _) h =
 told_determined (Err d) (Err e) h = ap Err (refusal_determined d e h)
 
 -- what a `?` hands on is the error that it met
-pub handed_on : {T : Type 0} {e : Refusal} (r : Result T Refusal) → IsErrAnd r (λ d. d ≡ e) → r ≡ Err e
+pub handed_on : {T E : Type 0} {e : E} (r : Result T E) → IsErrAnd r (λ d. d ≡ e) → r ≡ Err e
 handed_on r h = let p = err_from_is_err_and r h in rw p.2 at p.1
 
 -- where rows pass, each of them passes
