@@ -1,4 +1,4 @@
--- Laws of reading: places, parts and lists, drafts, pairs; and the promises.
+-- Laws of reading: parts and lists, drafts, pairs; and the promises.
 pub mod Answers
 pub mod Bounds
 pub mod Demands

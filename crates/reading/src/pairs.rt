@@ -43,10 +43,7 @@ fn is_unpaired(o: &[u8], pairs: &[u32], r: usize) -> bool
     requires { IsRecord o.now r }
     ensures { result ≡ unpaired o.now pairs.now r }
 {
-    if is_taxon(o, r) {
-        return pairs_of(pairs, plate_of(o, r)) != 1;
-    }
-    false
+    is_taxon(o, r) && pairs_of(pairs, plate_of(o, r)) != 1
 }
 
 // Whether a taxon is without exactly one pair.
