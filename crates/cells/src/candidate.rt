@@ -4,10 +4,10 @@ ghost use Rattle.laws.specs.Candidate.{nothing_worth, none, some, better_of, joi
 ghost use Rattle.cells.specs.Cells.{unit, lift, view, locked_of, diversity_of, cost_of, Joinable, Chargeable};
 
 // A score takes locked taxa and diversity times UNIT, less the cost. Costs are below UNIT, so that scores compare by cost last.
-pub const UNIT: u64 = 65536;
+pub const UNIT: u64 = 1 << 16;
 
 // Locked taxa count LIFT times in it. Diversities are below LIFT, so that scores compare by locked taxa first.
-pub const LIFT: u64 = 4294967296;
+pub const LIFT: u64 = 1 << 32;
 
 // Two words that compare as sets do, and are stored and read as they are. No set is a score of 0 and no `Option`: a cell is two
 // words of the memory that is lent through C, and `added` adds them with no test.
@@ -25,6 +25,13 @@ impl Candidate {
         ensures { view result ≡ none }
     {
         Self { score: 0, set: 0 }
+    }
+
+    // Nothing chosen, which is a set.
+    pub fn nothing() -> Self
+        ensures { view result ≡ some nothing_worth }
+    {
+        Self::some(0, 0, 0, 0)
     }
 
     // A set by its worth.

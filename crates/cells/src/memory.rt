@@ -1,6 +1,6 @@
 // Rows of candidates in lent memory, written column by column.
-// The memory and the width go along as two parameters. In a struct of both, tried with two of these functions, a caller knows of a
-// method with `&mut self` only what its contract says: each would say also that the width and the borrow stay as they are.
+// The memory and the width go along as two parameters. A struct of both, tried with two of these functions, is no plainer: it spares each
+// call one argument, and each contract, here and in table, has to add that the width and the borrow stay, as each text of a pen does.
 ghost use Rattle.std.specs.Prelude.{◌≡◌, ◌+◌, ◌*◌, ◌<◌, ◌≤◌, length};
 ghost use Rattle.laws.specs.Candidate.{none, better_of};
 ghost use Rattle.cells.specs.Cells.{view, cell};
@@ -131,31 +131,32 @@ fn follower(work: &[u64], x: usize, y: usize, b: usize, width: usize) -> Candida
 {
     let other = column(work, y, b);
     if x == width {
-        return Candidate::some(0, 0, 0, 0).better(other);
+        return Candidate::nothing().better(other);
     }
     read(work, x + b).better(other)
 }
 
-// Makes each column from the cost on the better of two: what stands in that column of the row at `own`, below groups that cost
-// `above`, joined with the better of x and y for what the cost leaves, and z. The row that is written may be the one at `own`.
-pub fn join_row(
-    work: &mut [u64],
-    to: usize,
-    own: usize,
-    above: usize,
-    cost: usize,
-    x: usize,
-    y: usize,
-    z: usize,
-    width: usize,
-)
-    requires { Joins work.old to own above cost x y z width }
-    ensures { Joining to own above cost x y z width work.old work.new }
+// What `join_row` makes a column of: what stands in that column of the row at `own`, below groups that cost `above`, joined with the
+// better of the rows at `x` and `y` for what the cost leaves; or else the row at `z`.
+#[derive(Clone, Copy)]
+pub struct Join {
+    pub own: usize,
+    pub above: usize,
+    pub cost: usize,
+    pub x: usize,
+    pub y: usize,
+    pub z: usize,
+}
+
+// Makes each column from the cost on the better of the join and the row at `z`. The row that is written may be the one at `own`.
+pub fn join_row(work: &mut [u64], to: usize, join: Join, width: usize)
+    requires { Joins work.old to join.own join.above join.cost join.x join.y join.z width }
+    ensures { Joining to join.own join.above join.cost join.x join.y join.z width work.old work.new }
 {
-    each_column(work, to, cost, width, |rows, b| {
-        let c = read(rows, own + b).charged(0, above as u64);
-        let next = follower(rows, x, y, b - cost, width);
-        c.joined(next).better(column(rows, z, b))
+    each_column(work, to, join.cost, width, |rows, b| {
+        let c = read(rows, join.own + b).charged(0, join.above as u64);
+        let next = follower(rows, join.x, join.y, b - join.cost, width);
+        c.joined(next).better(column(rows, join.z, b))
     });
 }
 

@@ -15,7 +15,7 @@ use Rattle.lists.proofs.Bools.{both_false}
 use Rattle.refusals.specs.Refusals.{refusal}
 use Rattle.refusals.specs.declared.refusal.Refusal.{Refusal}
 use Rattle.refusals.proofs.Tables.{two_ways}
-use Rattle.refusals.proofs.Refusals.{both_pass, row_fails, refusal_not_zero}
+use Rattle.refusals.proofs.Refusals.{both_pass, row_fails, refused_not_zero}
 use Rattle.outline.specs.Answer.{size_rows, record_rows, checked}
 use Rattle.outline.proofs.WellFormed.{rows_kept}
 use Rattle.diversity.specs.Search.{none_fits}
@@ -112,7 +112,7 @@ module _ (c : Call) where
   pub refused_answered : (e : Refusal) → refusal e ≡ judged c → Answered c (told (Err e)) c.marks c.curve c.work
   unfolding reply marks_after curve_after work_after
   refused_answered e h =
-      let number : is_selected c ≡ false = rw (← h) (refusal_not_zero e) in
+      let number : is_selected c ≡ false = refused_not_zero e h in
       record {
         told_reply = rw (number, h);
         marks_written = rw number;

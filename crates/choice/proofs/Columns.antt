@@ -2,12 +2,12 @@
 use Prim.Native.Nat.{ℕ, zero, suc, ◌+◌, ◌*◌, ◌-◌, ◌≤◌, ◌<◌}
 use mathlib.Core.Path.{◌≡◌, refl, sym, ap, ◌∙◌}
 use mathlib.Core.Bool.{Bool, true, false, ◌||◌, ◌&&◌, not}
-use mathlib.Core.List.{List}
+use mathlib.Core.List.{List, [], ◌∷◌}
 use native.Mathlib.Omega.{arith}
 use lib.Dec.{eqb}
-use lib.ListN.{length, get_or, set}
-use Rattle.lists.specs.Lists.{from, over}
-use Rattle.lists.proofs.Buffers.{Rising, rising_starts, rising_goes, rising_ends}
+use lib.ListN.{length, get_or}
+use Rattle.lists.specs.Lists.{from}
+use Rattle.text.specs.Text.{texts}
 use Rattle.diversity.specs.Search.{blank_cost, columns_alike}
 use Rattle.choice.specs.Answer.{columns, diversity_at, cost_at}
 use Rattle.choice.specs.Inner.{level}
@@ -37,23 +37,14 @@ module _ (d c : ℕ → ℕ) where
   pub column_cost : (n j : ℕ) → j < n → get_or (columns d c (from 0 n)) (2 * j + 1) 0 ≡ c j
   column_cost n j h = (columns_two 0 n j h).1 ∙ ap c (omega arith)
 
-  -- a loop's invariant: the first b columns of n are written
-  abbrev pub Drawing : ℕ → List ℕ → List ℕ → ℕ → Type 0
-  Drawing n buffer now b = Rising (columns d c (from 0 n)) buffer now (2 * b)
+  -- as texts, a column's two numbers each
+  abbrev pub column : ℕ → List ℕ
+  column b = d b ∷ c b ∷ []
 
-  pub drawing_starts : (n : ℕ) {buffer : List ℕ} → 2 * n ≤ length buffer → Drawing n buffer buffer 0
-  drawing_starts n h = rising_starts (omega (arith, columns_long 0 n))
-
-  pub drawing_goes : {n b : ℕ} {buffer now : List ℕ} {v w : ℕ} → Drawing n buffer now b → b < n → v ≡ d b → w ≡ c b
-      → Drawing n buffer (set (set now (2 * b) v) (2 * b + 1) w) (b + 1)
-  drawing_goes {n} {b} h l e f =
-      let even : 2 * b < length (columns d c (from 0 n)) = omega (arith, columns_long 0 n) in
-      let odd : 2 * b + 1 < length (columns d c (from 0 n)) = omega (arith, columns_long 0 n) in
-      let step : 2 * (b + 1) ≡ 2 * b + 1 + 1 = omega arith in
-      rw step (rising_goes (rising_goes h even (e ∙ sym (column_diversity n b l))) odd (f ∙ sym (column_cost n b l)))
-
-  pub drawing_ends : {n b : ℕ} {buffer now : List ℕ} → Drawing n buffer now b → n ≤ b → now ≡ over (columns d c (from 0 n)) buffer
-  drawing_ends {n} h l = rising_ends h (omega (arith, columns_long 0 n))
+  pub columns_texts : (bs : List ℕ) → texts column bs ≡ columns d c bs
+  unfolding texts columns
+  columns_texts [] = refl
+  columns_texts (b ∷ bs) = ap (λ s. d b ∷ c b ∷ s) (columns_texts bs)
 
 -- columns that agree up to n
 pub alike_ext : (f g : ℕ → Bool) (n : ℕ) → ((b : ℕ) → b < n → f b ≡ g b) → columns_alike f n ≡ columns_alike g n

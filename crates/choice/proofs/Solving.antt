@@ -19,11 +19,11 @@ use Rattle.laws.specs.Candidate.{Value, none, some}
 use Rattle.laws.specs.Locks.{locks}
 use Rattle.laws.specs.Numbers.{decode, worth}
 use Rattle.laws.proofs.Sums.{total_ext, total_most}
-use Rattle.laws.proofs.Optimum.{search_ends, optimum_set, shown_diversity, shown_cost, blank_exactly}
+use Rattle.laws.proofs.Optimum.{search_ends, optimum_set, blank_exactly}
 use Rattle.laws.proofs.Numbers.{decode_code}
 use Rattle.rows.specs.Rows.{top_row}
 use Rattle.rows.proofs.TopRow.{Tells, top_row_lem}
-use Rattle.cells.specs.Cells.{unit, lift, seen, view, code_of, cell}
+use Rattle.cells.specs.Cells.{unit, lift, seen, view, diversity_of, cost_of, code_of, cell}
 use Rattle.table.specs.Table.{Filled}
 use Rattle.cells.specs.declared.candidate.Candidate.{Candidate}
 use Rattle.choice.specs.Answer.{Call, Figures, most_count, best_set, figures, columns, curve_of, diversity_at, cost_at}
@@ -126,36 +126,34 @@ module _ (c : Call) (s : Solvable c) (table : List ℕ) (filled : Filled c.outli
   unfolding curve_of
   top_curve = columns_ext _ _ _ _ 0 (c.count + 1) top_column
 
-  -- the last column's set is the best
-  best_marks : (best : Candidate) → view best ≡ cell table (2 * (c.count + 1) + c.count) → decode c.outline best.set ≡ best_set c
-  unfolding view worth
-  best_marks best e =
-      let ends = search_ends c.outline c.way c.count s.locked_fit in
-      let is = complete_is c.outline c.way (ruling c.count) ends in
-      let code = set_of_lem best.score best.set (e ∙ filled.row c.count (omega arith) ∙ is) in
-      ap (decode c.outline) code ∙ decode_code (optimum_set c.outline c.way c.count s.locked_fit)
+  module _ (best : Candidate) (is_best : view best ≡ cell table (2 * (c.count + 1) + c.count)) where
+    -- the last column's candidate is the best set, with what it is worth
+    best_is : view best ≡ some (worth c.outline c.way (best_set c))
+    best_is = is_best ∙ filled.row c.count (omega arith) ∙ complete_is c.outline c.way (ruling c.count) (search_ends c.outline c.way c.count s.locked_fit)
 
-  -- what is told and written
-  pub solved : (best : Candidate) {marks curve work : List ℕ} {locked taxa left : ℕ} → view best ≡ cell table (2 * (c.count + 1) + c.count)
-      → marks ≡ over (decode c.outline best.set) c.marks
-      → locked ≡ locks c.outline
-      → curve ≡ over (columns (top_diversity table (c.count + 1) locked) (top_cost table (c.count + 1) locked) (from 0 (c.count + 1))) c.curve
-      → work ≡ replicate (length c.work) 0
-      → taxa ≡ chosen_taxa c.outline marks
-      → left ≡ columns_alike (level curve (diversity_at curve c.count)) c.count
-      → Solved c (selected (diversity_at curve c.count) (cost_at curve c.count) taxa left) marks curve work
-  unfolding figures
-  solved best {marks} {curve} is_best m held k w t l =
-      let marked : marks ≡ over (best_set c) c.marks = m ∙ ap (λ x. over x c.marks) (best_marks best is_best) in
-      let drawn : curve ≡ over (curve_of c) c.curve = rw held at k ∙ ap (λ x. over x c.curve) top_curve in
-      let fit = s.locked_fit in
-      record {
-        told_figures =
-            selected_path (ap (λ x. diversity_at x c.count) drawn ∙ curve_diversity c c.curve c.count (omega arith) ∙ shown_diversity _ _ _ fit)
-            (ap (λ x. cost_at x c.count) drawn ∙ curve_cost c c.curve c.count (omega arith) ∙ shown_cost _ _ _ fit)
-            (t ∙ ap (chosen_taxa c.outline) marked ∙ taxa_over c.outline (best_set c) c.marks (optimum_set _ _ _ fit))
-            (l ∙ ap (λ x. columns_alike (level x (diversity_at x c.count)) c.count) drawn ∙ curve_spare c c.curve s.low);
-        marks_written = marked;
-        curve_written = drawn;
-        work_cleared = w;
-      }
+    best_marks : decode c.outline best.set ≡ best_set c
+    unfolding view worth
+    best_marks = ap (decode c.outline) (set_of_lem best.score best.set best_is) ∙ decode_code (optimum_set c.outline c.way c.count s.locked_fit)
+
+    -- what is told and written
+    pub solved : {marks curve work : List ℕ} {locked d k taxa left : ℕ} → marks ≡ over (decode c.outline best.set) c.marks
+        → locked ≡ locks c.outline
+        → curve ≡ over (columns (top_diversity table (c.count + 1) locked) (top_cost table (c.count + 1) locked) (from 0 (c.count + 1))) c.curve
+        → work ≡ replicate (length c.work) 0
+        → d ≡ diversity_of (view best) → k ≡ cost_of (view best)
+        → taxa ≡ chosen_taxa c.outline marks
+        → left ≡ columns_alike (level curve (diversity_at curve c.count)) c.count
+        → Solved c (selected d k taxa left) marks curve work
+    unfolding figures diversity_of cost_of worth
+    solved {marks} {curve} m held v w d k t l =
+        let marked : marks ≡ over (best_set c) c.marks = m ∙ ap (λ x. over x c.marks) best_marks in
+        let drawn : curve ≡ over (curve_of c) c.curve = rw held at v ∙ ap (λ x. over x c.curve) top_curve in
+        record {
+          told_figures =
+              selected_path (d ∙ ap diversity_of best_is) (k ∙ ap cost_of best_is)
+              (t ∙ ap (chosen_taxa c.outline) marked ∙ taxa_over c.outline (best_set c) c.marks (optimum_set _ _ _ s.locked_fit))
+              (l ∙ ap (λ x. columns_alike (level x (diversity_at x c.count)) c.count) drawn ∙ curve_spare c c.curve s.low);
+          marks_written = marked;
+          curve_written = drawn;
+          work_cleared = w;
+        }

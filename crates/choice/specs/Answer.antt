@@ -48,6 +48,10 @@ curve_taken count = 2 * (count + 1)
 abbrev pub work_taken : List ℕ → ℕ → ℕ
 work_taken o count = 4 * ((size o + 2) * (count + 1))
 
+-- refusal 1: a way that is neither of the two
+abbrev pub unknown : ℕ → Bool
+unknown way = not (eqb way 0) && not (eqb way 1)
+
 -- refusal 9: marks, curve or work shorter than that
 unfoldable pub too_short : Call → Bool
 too_short c =
@@ -57,7 +61,7 @@ too_short c =
 -- judged from 1 to 9, and then 12: no set that holds every locked taxon fits the page count; the first that holds is given
 unfoldable pub judged : Call → Ruling
 judged c =
-    row 1 (not (eqb c.way 0) && not (eqb c.way 1))
+    row 1 (unknown c.way)
     ▸ size_rows c.outline
     ▸ row 4 (ltb most_count c.count)
     ▸ record_rows c.outline

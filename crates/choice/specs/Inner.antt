@@ -1,5 +1,5 @@
 -- What the functions behind `choose` speak of.
-use Rattle.std.specs.Prelude.{if◌then◌else◌, ℕ, ◌+◌, ◌*◌, ◌≤◌, ◌≡◌, Bool, ◌&&◌, not, List, eqb, length, replicate}
+use Rattle.std.specs.Prelude.{if◌then◌else◌, ℕ, ◌+◌, ◌*◌, ◌≤◌, ◌≡◌, Bool, ◌&&◌, not, List, [], ◌∷◌, eqb, length, replicate}
 use Rattle.lists.specs.Lists.{over}
 use Rattle.outline.specs.Outline.{size}
 use Rattle.outline.specs.WellFormed.{WellFormed}
@@ -9,7 +9,6 @@ use Rattle.laws.specs.Candidate.{Cand}
 use Rattle.laws.specs.Locks.{locked_set}
 use Rattle.cells.specs.Cells.{cell, locked_of, diversity_of, cost_of}
 use Rattle.choice.specs.Answer.{Call, Figures, most_count, marks_taken, curve_taken, work_taken, best_set, figures, curve_of, diversity_at, cost_at}
-use Rattle.choice.specs.declared.curve.Column.{Column}
 use Rattle.outline.specs.Rules.{most_records}
 
 -- an outline and a page count that are not too large
@@ -24,9 +23,8 @@ diversity_shown locks c = if eqb (locked_of c) locks then diversity_of c else 0
 unfoldable pub cost_shown : ℕ → Cand → ℕ
 cost_shown locks c = if eqb (locked_of c) locks then cost_of c else blank_cost
 
-pub record ColumnOf (locks : ℕ) (c : Cand) (column : Column) : Type 0 where
-  pub diversity_is : column.diversity ≡ diversity_shown locks c
-  pub cost_is : column.cost ≡ cost_shown locks c
+abbrev pub column_shown : ℕ → Cand → List ℕ
+column_shown locks c = diversity_shown locks c ∷ cost_shown locks c ∷ []
 
 -- the two numbers of column b of the curve, from the table's top row, of so many columns
 abbrev pub top_diversity : List ℕ → ℕ → ℕ → ℕ → ℕ

@@ -33,8 +33,8 @@ fn solve(
     write_marks(o, best.set, marks);
     work.fill(0);
     Figures {
-        diversity: curve[2 * b],
-        cost: curve[2 * b + 1],
+        diversity: best.diversity() as u32,
+        cost: best.cost() as u32,
         taxa: marked(o, marks),
         spare: spare_of(curve, b) as u32,
     }

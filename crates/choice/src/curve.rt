@@ -4,48 +4,39 @@ ghost use Rattle.lists.specs.Lists.{from, over};
 ghost use Rattle.diversity.specs.Search.{columns_alike};
 ghost use Rattle.choice.specs.Answer.{columns, diversity_at};
 ghost use Rattle.cells.specs.Cells.{view};
-ghost use Rattle.choice.specs.Inner.{ColumnOf, top_diversity, top_cost, Drawable, level};
+ghost use Rattle.choice.specs.Inner.{column_shown, top_diversity, top_cost, Drawable, level};
 
 use cells::candidate::Candidate;
 use table::best_at;
+use text::Pen;
 
 // The cost of a column where no set fits. The curve is lent through C, where a column is two numbers and not an `Option`.
-pub const BLANK_COST: u32 = 4294967295;
+pub const BLANK_COST: u32 = u32::MAX;
 
-// A column of the curve.
-#[derive(Drop)]
-pub struct Column {
-    pub diversity: u32,
-    pub cost: u32,
-}
-
-// What the best candidate of a column shows, in an outline with so many locked taxa: if it lacks one of them, no set fits.
-fn column_of(best: Candidate, locks: u64) -> Column
-    ensures { ColumnOf locks (view best) result }
+// What the best candidate of a column shows, in an outline with so many locked taxa, its diversity and its cost: if it lacks one of
+// them, no set fits.
+fn column_of(best: Candidate, locks: u64) -> [u32; 2]
+    ensures { result ≡ column_shown locks (view best) }
 {
     if best.locked() != locks {
-        return Column {
-            diversity: 0,
-            cost: BLANK_COST,
-        };
+        return [0, BLANK_COST];
     }
-    Column {
-        diversity: best.diversity() as u32,
-        cost: best.cost() as u32,
-    }
+    [best.diversity() as u32, best.cost() as u32]
 }
 
-// Writes the curve from the table's top row, for an outline with so many locked taxa. Its pairs stand in one list, as C reads them.
+// Writes the curve from the table's top row, for an outline with so many locked taxa.
 pub fn write_curve(work: &[u64], width: usize, locks: u64, curve: &mut [u32])
     requires { Drawable work.now width curve.old }
     ensures { curve.new
         ≡ over (columns (top_diversity work.now width locks) (top_cost work.now width locks) (from 0 width))
         curve.old }
 {
+    let mut pen = Pen {
+        buffer: curve,
+        at: 0,
+    };
     for b in 0..width {
-        let column = column_of(best_at(work, width, b), locks);
-        curve[2 * b] = column.diversity;
-        curve[2 * b + 1] = column.cost;
+        pen.put(&column_of(best_at(work, width, b), locks));
     }
 }
 

@@ -1,7 +1,7 @@
 // The table of refusals, whole: rows 1 to 9 in their order, and row 12.
 ghost use Rattle.std.specs.Prelude.{◌≡◌};
 ghost use Rattle.refusals.specs.Refusals.{told};
-ghost use Rattle.choice.specs.Answer.{call, work_taken, judged};
+ghost use Rattle.choice.specs.Answer.{call, work_taken, unknown, too_short, judged};
 ghost use Rattle.choice.specs.Inner.{WithinLimits};
 
 use measures::locked_cost;
@@ -18,6 +18,24 @@ pub fn work_taken(outline: &[u8], count: u32) -> usize
     4 * ((outline.len() / 16 + 2) * (count as usize + 1))
 }
 
+// A way that is neither 0 nor 1.
+fn is_unknown(way: u32) -> bool
+    ensures { result ≡ unknown way }
+{
+    way != 0 && way != 1
+}
+
+// Marks, curve or work shorter than what the call takes.
+#[tactic(auto, unfolding(crate::specs::Answer::too_short))]
+fn is_short(outline: &[u8], count: u32, marks: &[u8], curve: &[u32], work: &[u64]) -> bool
+    requires { WithinLimits outline.now count }
+    ensures { result ≡ too_short (call outline.now count 0 marks.now curve.now work.now) }
+{
+    marks.len() < outline.len() / 16
+        || curve.len() < 2 * (count as usize + 1)
+        || work.len() < work_taken(outline, count)
+}
+
 // The first row that holds. The way stays a number down to the table: C hands it over, row 1 answers any that is none, and the
 // definitions count by it; an enum would ask more of who calls `measure` and `fill`, which count any other number as unrooted.
 pub fn judge(
@@ -31,18 +49,15 @@ pub fn judge(
     ensures { told result ≡ judged
         (call outline.now count way marks.now curve.now work.now) }
 {
-    if (way != 0) & (way != 1) {
+    if is_unknown(way) {
         return Err(Refusal::UnknownWay);
     }
     check_size(outline)?;
-    if MOST_COUNT < count {
+    if count > MOST_COUNT {
         return Err(Refusal::CountTooLarge);
     }
     check_records(outline)?;
-    let marks_short = marks.len() < outline.len() / 16;
-    let curve_short = curve.len() < 2 * (count as usize + 1);
-    let work_short = work.len() < work_taken(outline, count);
-    if marks_short | (curve_short | work_short) {
+    if is_short(outline, count, marks, curve, work) {
         return Err(Refusal::BufferTooShort);
     }
     if count < locked_cost(outline) {

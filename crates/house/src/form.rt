@@ -10,7 +10,7 @@ ghost use Rattle.house.specs.Inner.{RecordFits, ChainFits, ChainWritten, FormFit
 use super::chains::Chains;
 use outline::checker::check_with_room;
 use outline::fields::{branch_of, plate_field_of, price_of};
-use records::put_record;
+use records::Record;
 use refusals::Refusal;
 use text::Pen;
 
@@ -31,14 +31,14 @@ fn put_at(o: &[u8], r: usize, k: usize, next: usize, first: usize, form: &mut [u
         buffer: form,
         at: 16 * (k - 1),
     };
-    put_record(
-        &mut pen,
+    let record = Record {
         next,
         first,
-        branch_of(o, r),
-        price_of(o, r),
-        plate_field_of(o, r),
-    );
+        branch: branch_of(o, r),
+        price: price_of(o, r),
+        plate: plate_field_of(o, r),
+    };
+    record.put(&mut pen);
 }
 
 // Writes the ordered chain that begins at record r, each record before its members, the first of them as record k; gives the number after

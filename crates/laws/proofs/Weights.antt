@@ -1,11 +1,11 @@
 -- The weights of records, from the last to the first: doubled before each taxon, below 2 to the number of all taxa.
 use Rattle.std.specs.Prelude.{if◌then◌else◌}
-use Prim.Native.Nat.{ℕ, zero, suc, ◌+◌, ◌*◌, ◌-◌, ◌^◌, ◌<◌, ◌≤◌}
+use Prim.Native.Nat.{ℕ, suc, ◌+◌, ◌*◌, ◌-◌, ◌^◌, ◌<◌, ◌≤◌}
 use mathlib.Core.Path.{◌≡◌, ap}
 use mathlib.Core.Bool.{Bool, true, false}
 use mathlib.Core.List.{List}
 use native.Mathlib.Omega.{arith}
-use native.Mathlib.Nat.{pow-succ', le_refl, le_trans}
+use native.Mathlib.Nat.{pow-succ'}
 use native.Mathlib.Numerals.{one-add}
 use lib.Pow.{pow_mono}
 use Rattle.lists.specs.Lists.{one, from, total}
@@ -38,25 +38,6 @@ module _ (o : List ℕ) where
   weight_before q l u =
       let e : q - 1 + 1 ≡ q = omega arith in
       rw e at (weight_after (q - 1) (omega arith))
-
-  -- the more, the earlier
-  weight_falls : (k q : ℕ) → q + k ≤ size o → weight o (q + k) ≤ weight o q
-  weight_falls zero q h =
-      let e : q + 0 ≡ q = omega arith in
-      rw e (le_refl _)
-  weight_falls (suc k) q h =
-      let e : q + suc k ≡ q + 1 + k = omega arith in
-      let step : weight o (q + 1) ≤ weight o q = rw (weight_after q (omega arith)) (grows (is_taxon o (q + 1)) _) in
-      rw e (le_trans (weight_falls k (q + 1) (omega arith)) step)
-    where
-      grows : (t : Bool) (k : ℕ) → k ≤ (if t then 2 * k else k)
-      grows true k = omega arith
-      grows false k = omega arith
-
-  pub weight_most : (r q : ℕ) → r ≤ q → q ≤ size o → weight o q ≤ weight o r
-  weight_most r q h m =
-      let e : r + (q - r) ≡ q = omega arith in
-      rw e at (weight_falls (q - r) r (omega arith))
 
   -- of an accepted outline, a taxon's weight is a number of 64 bits
   pub weight_limit : WellFormed o → (r : ℕ) → 1 ≤ r → r ≤ size o → is_taxon o r ≡ true → weight o r < 2 ^ most_taxa

@@ -1,6 +1,6 @@
 // Picking one taxon: the greatest added diversity, then the fewest added quarters, then the lowest record. The set is marked, with
-// its ways; `room` is how many quarters are left. These stay parameters: a struct that holds the outline and the marks by reference has
-// a value at the call and one at the return, and each clause would say `set.entry.marks.now` for `marks.now`.
+// its ways; `room` is how many quarters are left. These stay parameters: in a struct of references a clause would say `set.now.marks.now`
+// for `marks.now`.
 ghost use Rattle.std.specs.Prelude.{◌≡◌, ◌+◌, ◌<◌};
 ghost use Rattle.diversity.specs.Diversity.{cost};
 ghost use Rattle.quick.specs.Quick.{can_pick, in_hand, picked};

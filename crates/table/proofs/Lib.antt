@@ -5,4 +5,5 @@ pub mod Pushing
 pub mod SpreadSteps
 pub mod Spreading
 pub mod Terminal
+pub mod Weighing
 pub mod Whole

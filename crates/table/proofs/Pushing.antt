@@ -3,13 +3,14 @@ use Rattle.std.specs.Prelude.{if◌then◌else◌}
 use Prim.Native.Nat.{ℕ, ◌+◌, ◌*◌, ◌-◌, ◌<◌, ◌≤◌}
 use mathlib.Core.Path.{◌≡◌, refl, sym, ap, ap₂, ◌∙◌}
 use mathlib.Core.Logic.{◌⊎◌, inl, inr, ⊎_elim}
-use mathlib.Core.Bool.{Bool, true, false}
+use mathlib.Core.Bool.{true, false}
 use mathlib.Core.List.{List}
 use native.Mathlib.Omega.{arith}
 use lib.Dec.{eqb}
 use lib.ListN.{length}
 use borrow.Author.Tests.{eq-eqb, ne_eqb}
 use Rattle.outline.specs.Outline.{branch, price, is_taxon}
+use Rattle.std.proofs.lemmas.Bool.{cases_cond}
 use Rattle.laws.specs.Candidate.{Cand, better_of, From, nothing, this}
 use Rattle.laws.specs.Forest.{tree}
 use Rattle.laws.specs.Numbers.{weight}
@@ -24,11 +25,6 @@ use Rattle.table.proofs.Places.{gap, base_kept, blank_none, idle_nothing, own_in
 use Rattle.cells.proofs.ByPrice.{join_row_lem, join_same}
 use Rattle.table.specs.Table.{IsTaxon, start, Base, Pushable, Pushed, Followed, TaxonRow, TaxonJoins, pushed_from}
 use Rattle.rows.specs.Bounds.{Bounded, BoundedRow, lockings, branches, codes}
-
--- one of two, as a number
-pub either : (b : Bool) {x y s : ℕ} → s ≡ (if b then x else y) → (s ≡ x) ⊎ (s ≡ y)
-either true e = inl e
-either false e = inr e
 
 -- ---- candidates of bounded size
 module _ {k d m b : ℕ} where
@@ -120,7 +116,7 @@ module _ {o : List ℕ} {r after to w : ℕ} {l₀ : List ℕ} (asked : Pushable
   -- after the rest of the chain, whose row stands at `rest`
   module _ {l₁ : List ℕ} {rest : ℕ} (h₁ : Pushed o n after (start w r + w) w l₀ l₁ rest) (k₁ : length l₁ ≡ length l₀) where
     rest_place : (rest ≡ 0) ⊎ (rest ≡ start w r + w)
-    rest_place = either (eqb n 0) h₁.place
+    rest_place = cases_cond (eqb n 0) _ _ _ h₁.place
 
     below₁ : (k : ℕ) → k < start w r + w → cell l₁ k ≡ cell l₀ k
     below₁ k h = h₁.same k (λ p. omega (arith, gap w r n ((to_next a).later p))) (λ p q. omega arith)
@@ -201,7 +197,7 @@ module _ {o : List ℕ} {r after to w : ℕ} {l₀ : List ℕ} (asked : Pushable
       positive = omega arith
 
       at_place : (at ≡ after) ⊎ (at ≡ start w r)
-      at_place = either (eqb rest 0) h₂.place
+      at_place = cases_cond (eqb rest 0) _ _ _ h₂.place
 
       below₂ : (k : ℕ) → k < start w r → cell l₂ k ≡ cell l₀ k
       below₂ k h = h₂.same k (λ q. omega arith) ∙ below₁ k (omega arith)

@@ -12,6 +12,7 @@ use borrow.Author.Tests.{eq-eqb, ne_eqb}
 use Rattle.outline.specs.Outline.{size, next, branch, price, is_taxon}
 use Rattle.outline.specs.Rules.{most_records}
 use Rattle.outline.specs.WellFormed.{WellFormed}
+use Rattle.std.proofs.lemmas.Bool.{cases_cond}
 use Rattle.laws.specs.Candidate.{plus, nothing_worth, heading, none, some, better_of, join_of, one_at}
 use Rattle.laws.specs.Forest.{records_in, tree}
 use Rattle.laws.specs.Numbers.{weight}
@@ -26,7 +27,7 @@ use Rattle.cells.specs.Memory.{row_at, Charges, charge_over, Charging}
 use Rattle.table.specs.Table.{taxon_worth, start, Base, pushed_from, rooted_from, across_from, alone_from, cross_from}
 use Rattle.table.specs.Spread.{Running, Spreadable, Spread, TaxonSpreadable, TaxonSpread, Crossable, Crossed, Meets, Met}
 use Rattle.table.proofs.Places.{gap, base_kept, blank_none, own_inside, own_above, AtRecord, to_next, to_first, lockings_here, branches_here, prices_here, codes_here}
-use Rattle.table.proofs.Pushing.{either, bounded_locked, bounded_diversity, bounded_cost}
+use Rattle.table.proofs.Pushing.{bounded_locked, bounded_diversity, bounded_cost}
 use Rattle.table.proofs.Crossing.{cross_bounded}
 use Rattle.table.proofs.Spreading.{least_kept, shuffle}
 use Rattle.cells.proofs.ByPrice.{join_row_lem, join_same}
@@ -111,9 +112,9 @@ module _ {o : List ℕ} {r above to w : ℕ} {l₀ : List ℕ} (s : Spreadable o
             pairs = record {
               running = running₁;
               is = record { formed = a.base.formed; low = a.positive; high = s.most; taxon = taxon };
-              rest_place = ⊎_elim inl (λ (e : rest ≡ start w r + w). inr (omega (arith, own_above a))) (either (eqb n 0) er);
+              rest_place = ⊎_elim inl (λ (e : rest ≡ start w r + w). inr (omega (arith, own_above a))) (cases_cond (eqb n 0) _ _ _ er);
               rest_inside =
-                  ⊎_elim (λ (e : rest ≡ 0). omega (arith, own_inside a.base a.most)) (λ (e : rest ≡ start w r + w). omega (arith, own_inside a.base a.most)) (either (eqb n 0) er);
+                  ⊎_elim (λ (e : rest ≡ 0). omega (arith, own_inside a.base a.most)) (λ (e : rest ≡ start w r + w). omega (arith, own_inside a.base a.most)) (cases_cond (eqb n 0) _ _ _ er);
               most_locked = lockings o (tree o n);
               most_diversity = branches o (tree o n);
               most_code = codes (weight o) (tree o n);
@@ -125,7 +126,7 @@ module _ {o : List ℕ} {r above to w : ℕ} {l₀ : List ℕ} (s : Spreadable o
             above_most = omega (arith, s.above_fits);
             to_above = s.to_above;
             to_inside = omega (arith, s.to_before a.positive, own_inside a.base a.most);
-            to_before = ⊎_elim inl (λ (e : rest ≡ start w r + w). inr (omega (arith, s.to_before a.positive))) (either (eqb n 0) er);
+            to_before = ⊎_elim inl (λ (e : rest ≡ start w r + w). inr (omega (arith, s.to_before a.positive))) (cases_cond (eqb n 0) _ _ _ er);
           }
 
       rooted_taxon : (b : ℕ) → rooted_from o r b

@@ -1,10 +1,23 @@
-// Pushing a row through the chain of a record.
-ghost use Rattle.cells.specs.Memory.{Betters};
+// Pushing a row through the chain of a record. The two rows of record r begin at `2 * ((r + 1) * width)`, here and in spread.rt, written
+// out: what a function gives stands in each fact as its result, and some twenty answers would have to put the product in its place.
+ghost use Rattle.outline.specs.Outline.{IsRecord, branch, price};
+ghost use Rattle.cells.specs.Memory.{Betters, Charges, Charging};
 ghost use Rattle.table.specs.Table.{Pushable, Pushed, Followed};
 
 use super::taxa::{join_terminal, terminal_row};
 use cells::memory::{better_rows, charge_row};
 use outline::fields::{branch_of, first_of, next_of, price_of};
+
+// Charges the row at `to` with the heading of record r, in place; each column then is the better of that and the rest's.
+pub fn charge_heading(o: &[u8], r: usize, to: usize, rest: usize, width: usize, work: &mut [u64])
+    requires is_record { IsRecord o.now r }
+    requires charges { Charges work.old to (branch o.now r) (price o.now r) rest width }
+    ensures { Charging to (branch o.now r) (price o.now r) rest width work.old work.new }
+{
+    let branch = branch_of(o, r) as u64;
+    let price = price_of(o, r) as usize;
+    charge_row(work, to, branch, price, rest, width);
+}
 
 // What may follow a clade, the better of the rows at `after` and `rest`: gives the cell where it stands.
 fn follow_row(work: &mut [u64], to: usize, after: usize, rest: usize, width: usize) -> usize
@@ -38,8 +51,6 @@ pub fn push(o: &[u8], r: usize, after: usize, to: usize, width: usize, work: &mu
     }
     let follow = follow_row(work, own, after, rest, width);
     push(o, f, follow, to, width, work);
-    let branch = branch_of(o, r) as u64;
-    let price = price_of(o, r) as usize;
-    charge_row(work, to, branch, price, rest, width);
+    charge_heading(o, r, to, rest, width, work);
     to
 }

@@ -3,10 +3,10 @@ ghost use Rattle.std.specs.Prelude.{if◌then◌else◌, ◌≡◌, ◌≤◌, e
 ghost use Rattle.table.specs.Table.{IsTaxon, most_above, Finished};
 ghost use Rattle.table.specs.Spread.{Running, Spreadable, Spread, BySingle, ByPairs, TaxonSpreadable, TaxonSpread, Crossable, Crossed, Tops, ByRow, Meets, Met};
 
-use super::push::push;
+use super::push::{charge_heading, push};
 use super::taxa::{join_terminal, taxon_of, terminal_row};
-use cells::memory::{better_by, better_rows, charge_from, charge_row, join_row};
-use outline::fields::{branch_of, first_of, is_locked, next_of, price_of};
+use cells::memory::{Join, better_by, better_rows, charge_from, join_row};
+use outline::fields::{first_of, is_locked, next_of, price_of};
 
 // Betters the running optimum by taxon r alone, below groups that cost `above` together. It has no diversity, so that it is better
 // than nothing only if all of it is free or it is locked.
@@ -43,7 +43,15 @@ fn better_by_pairs(
     if rest != 0 {
         let cost = above + price_of(o, r) as usize;
         let top = 2 * width;
-        join_row(work, top, own, above, cost, rest, 0, top, width);
+        let pairs = Join {
+            own,
+            above,
+            cost,
+            x: rest,
+            y: 0,
+            z: top,
+        };
+        join_row(work, top, pairs, width);
     }
 }
 
@@ -67,7 +75,8 @@ fn spread_taxon(
     join_terminal(o, r, width, rest, to, width, work);
 }
 
-// Something in the clade of group r with something in the rest of its chain: either side can be pushed over the other.
+// Something in the clade of group r with something in the rest of its chain: either side can be pushed over the other. Which of the two
+// is a `bool` here and no test at the caller, where the two ways would meet: each later fact of the memory would be of one of two.
 fn cross(o: &[u8], r: usize, by_members: bool, to: usize, width: usize, work: &mut [u64])
     requires { Crossable o.now r to width work.old }
     ensures { Crossed o.now r to width work.old work.new }
@@ -75,9 +84,7 @@ fn cross(o: &[u8], r: usize, by_members: bool, to: usize, width: usize, work: &m
     let own = 2 * ((r + 1) * width);
     if by_members {
         push(o, first_of(o, r), own + width, to, width, work);
-        let branch = branch_of(o, r) as u64;
-        let price = price_of(o, r) as usize;
-        charge_row(work, to, branch, price, 0, width);
+        charge_heading(o, r, to, 0, width, work);
         return;
     }
     push(o, next_of(o, r), own, to, width, work);
@@ -133,15 +140,14 @@ pub fn spread(o: &[u8], r: usize, above: usize, to: usize, width: usize, work: &
         spread_taxon(o, r, rest_at(n, own + width), above, to, width, work);
         return 1 + later;
     }
-    let branch = branch_of(o, r) as u64;
-    let price = price_of(o, r) as usize;
+    let below = above + price_of(o, r) as usize;
     if n == 0 {
-        let members = spread(o, f, above + price, to, width, work);
-        charge_row(work, to, branch, price, 0, width);
+        let members = spread(o, f, below, to, width, work);
+        charge_heading(o, r, to, 0, width, work);
         return 1 + members;
     }
-    let members = spread(o, f, above + price, own, width, work);
-    charge_row(work, own, branch, price, 0, width);
+    let members = spread(o, f, below, own, width, work);
+    charge_heading(o, r, own, 0, width, work);
     cross(o, r, members < later, to, width, work);
     meet(work, own, to, above, width);
     1 + members + later

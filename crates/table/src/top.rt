@@ -15,13 +15,13 @@ pub fn fill(o: &[u8], way: u32, width: usize, work: &mut [u64])
     ensures { Filled o.now way width work.new }
 {
     fill_row(work, 0, Candidate::none(), 0, width);
-    fill_row(work, width, Candidate::some(0, 0, 0, 0), 0, width);
+    fill_row(work, width, Candidate::nothing(), 0, width);
     if way == 0 {
         push(o, 1, width, 2 * width, width, work);
         better_rows(work, 2 * width, width, 2 * width, width);
         return;
     }
-    fill_row(work, 2 * width, Candidate::some(0, 0, 0, 0), 0, width);
+    fill_row(work, 2 * width, Candidate::nothing(), 0, width);
     spread(o, 1, 0, 3 * width, width, work);
 }
 

@@ -9,7 +9,8 @@ use Rattle.cells.proofs.memory.join_row.Goals as goal
 
 pub returns : goal.returns
 returns c =
-    let a = c.args in
+    let a = c.args.join in
+    let before = c.args.work.now in
     let beside = c.requires.beside in
     made_row _ c.each_column.ensures
     (λ m b d least most same given.
@@ -18,5 +19,5 @@ returns c =
     let own = ap (λ e. charge_of e 0 a.above) (aside_same same most c.requires.taken.aside) in
     let first = apart_same same most beside.first_apart (omega arith) in
     let next = ap₂ better_of first (apart_same same most beside.second_apart (omega arith)) in
-    let joined = ap₂ join_of own next ∙ join_from_lem _ _ (better_row (row_at a.work.now a.x) (row_at a.work.now a.y)) b least in
+    let joined = ap₂ join_of own next ∙ join_from_lem _ _ (better_row (row_at before a.x) (row_at before a.y)) b least in
     made ∙ ap₂ better_of joined (aside_same same most c.requires.over.aside))

@@ -6,7 +6,7 @@ use Rattle.choice.proofs.curve.column_of.Goals as goal
 pub returns-then-locked-locks : goal.returns-then-locked-locks
 returns-then-locked-locks c =
     let blank = shown_blank _ (λ e. c.if-locked-locks.true (c.locked.ensures ∙ e)) in
-    record { diversity_is = blank.0; cost_is = blank.1 }
+    rw (← blank.0, ← blank.1)
 
 pub overflow_cast-result : goal.overflow_cast-result
 overflow_cast-result c = record { fits = omega (arith, parts_low c.args.best) }
@@ -17,4 +17,4 @@ overflow_cast-result-2 c = record { fits = omega (arith, parts_low c.args.best) 
 pub returns : goal.returns
 returns c =
     let own = shown_own _ (sym c.locked.ensures ∙ c.if-locked-locks.false) in
-    record { diversity_is = c.diversity.ensures ∙ own.0; cost_is = c.cost.ensures ∙ own.1 }
+    rw (c.diversity.ensures, c.cost.ensures, own.0, own.1)

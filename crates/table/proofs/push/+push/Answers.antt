@@ -40,16 +40,15 @@ push-requires t c =
           c.follow_row-follow.auto.work,
     )
 
-pub charge_row-requires : goal.charge_row-requires
-charge_row-requires t c =
+pub charge_heading-requires-clause-charges : goal.charge_heading-requires-clause-charges
+charge_heading-requires-clause-charges t c =
     let a = at_links c.requires.base c.requires.most c.if-r-eq0.false c.next_of-n.ensures c.first_of-f.ensures in
-    rw (c.branch_of-branch.ensures, c.price_of-price.ensures)
-    (charges c.requires a c.push-rest.ensures c.push-rest.auto.work c.if-f-eq0.false c.follow_row-follow.ensures
-    c.follow_row-follow.auto.work c.push.ensures c.push.auto.work)
+    charges c.requires a c.push-rest.ensures c.push-rest.auto.work c.if-f-eq0.false c.follow_row-follow.ensures
+    c.follow_row-follow.auto.work c.push.ensures c.push.auto.work
 
 pub returns : goal.returns
 returns t c =
     let a = at_links c.requires.base c.requires.most c.if-r-eq0.false c.next_of-n.ensures c.first_of-f.ensures in
     pushed_group c.requires a c.push-rest.ensures c.push-rest.auto.work c.if-f-eq0.false c.follow_row-follow.ensures
     c.follow_row-follow.auto.work c.push.ensures c.push.auto.work
-    (rw (c.branch_of-branch.ensures, c.price_of-price.ensures) at c.charge_row.ensures)
+    c.charge_heading.ensures

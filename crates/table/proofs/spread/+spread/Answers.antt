@@ -32,17 +32,16 @@ returns-then-f-eq0 t c =
 pub spread-members-requires : goal.spread-members-requires
 spread-members-requires t c =
     let a = at_links c.requires.running.base c.requires.most c.if-r-eq0.false c.next_of-n.ensures c.first_of-f.ensures in
-    rw c.price_of-price.ensures (
+    rw c.price_of.ensures (
       omega (arith, left_less _ _ _ a.positive a.most (to_first a), c.decreases),
       spreadable_last c.requires a c.spread-later.ensures c.spread-later.auto.work c.if-f-eq0.false c.if-n-eq0.true,
     )
 
-pub charge_row-requires : goal.charge_row-requires
-charge_row-requires t c =
+pub charge_heading-requires-clause-charges : goal.charge_heading-requires-clause-charges
+charge_heading-requires-clause-charges t c =
     let a = at_links c.requires.running.base c.requires.most c.if-r-eq0.false c.next_of-n.ensures c.first_of-f.ensures in
-    rw (c.branch_of-branch.ensures, c.price_of-price.ensures)
-    (charges_last c.requires a c.spread-later.ensures c.spread-later.auto.work c.if-f-eq0.false c.if-n-eq0.true
-    (rw c.price_of-price.ensures at c.spread-members.ensures) c.spread-members.auto.work)
+    charges_last c.requires a c.spread-later.ensures c.spread-later.auto.work c.if-f-eq0.false c.if-n-eq0.true
+    (rw c.price_of.ensures at c.spread-members.ensures) c.spread-members.auto.work
 
 pub overflow_add-result-then-n-eq0 : goal.overflow_add-result-then-n-eq0
 overflow_add-result-then-n-eq0 t c =
@@ -53,37 +52,36 @@ pub returns-then-n-eq0 : goal.returns-then-n-eq0
 returns-then-n-eq0 t c =
     let a = at_links c.requires.running.base c.requires.most c.if-r-eq0.false c.next_of-n.ensures c.first_of-f.ensures in
     spread_last c.requires a c.spread-later.ensures c.spread-later.auto.work c.if-f-eq0.false c.if-n-eq0.true
-    (rw c.price_of-price.ensures at c.spread-members.ensures) c.spread-members.auto.work
-    (rw (c.branch_of-branch.ensures, c.price_of-price.ensures) at c.charge_row.ensures)
+    (rw c.price_of.ensures at c.spread-members.ensures) c.spread-members.auto.work
+    c.charge_heading.ensures
 
 pub spread-members-requires-2 : goal.spread-members-requires-2
 spread-members-requires-2 t c =
     let a = at_links c.requires.running.base c.requires.most c.if-r-eq0.false c.next_of-n.ensures c.first_of-f.ensures in
-    rw c.price_of-price.ensures (
+    rw c.price_of.ensures (
       omega (arith, left_less _ _ _ a.positive a.most (to_first a), c.decreases),
       spreadable_first c.requires a c.spread-later.ensures c.spread-later.auto.work c.if-f-eq0.false c.if-n-eq0.false,
     )
 
-pub charge_row-requires-2 : goal.charge_row-requires-2
-charge_row-requires-2 t c =
+pub charge_heading-requires-2-clause-charges : goal.charge_heading-requires-2-clause-charges
+charge_heading-requires-2-clause-charges t c =
     let a = at_links c.requires.running.base c.requires.most c.if-r-eq0.false c.next_of-n.ensures c.first_of-f.ensures in
-    rw (c.branch_of-branch.ensures, c.price_of-price.ensures)
-    (charges_first c.requires a c.spread-later.ensures c.spread-later.auto.work c.if-f-eq0.false c.if-n-eq0.false
-    (rw c.price_of-price.ensures at c.spread-members-2.ensures) c.spread-members-2.auto.work)
+    charges_first c.requires a c.spread-later.ensures c.spread-later.auto.work c.if-f-eq0.false c.if-n-eq0.false
+    (rw c.price_of.ensures at c.spread-members-2.ensures) c.spread-members-2.auto.work
 
 pub cross-requires : goal.cross-requires
 cross-requires t c =
     let a = at_links c.requires.running.base c.requires.most c.if-r-eq0.false c.next_of-n.ensures c.first_of-f.ensures in
     crossable c.requires a c.spread-later.ensures c.spread-later.auto.work c.if-f-eq0.false c.if-n-eq0.false
-    (rw c.price_of-price.ensures at c.spread-members-2.ensures) c.spread-members-2.auto.work
-    (rw (c.branch_of-branch.ensures, c.price_of-price.ensures) at c.charge_row-2.ensures) c.charge_row-2.auto.work
+    (rw c.price_of.ensures at c.spread-members-2.ensures) c.spread-members-2.auto.work
+    c.charge_heading-2.ensures c.charge_heading-2.auto.work
 
 pub meet-requires : goal.meet-requires
 meet-requires t c =
     let a = at_links c.requires.running.base c.requires.most c.if-r-eq0.false c.next_of-n.ensures c.first_of-f.ensures in
     meets c.requires a c.spread-later.ensures c.spread-later.auto.work c.if-f-eq0.false c.if-n-eq0.false
-    (rw c.price_of-price.ensures at c.spread-members-2.ensures) c.spread-members-2.auto.work
-    (rw (c.branch_of-branch.ensures, c.price_of-price.ensures) at c.charge_row-2.ensures) c.charge_row-2.auto.work
+    (rw c.price_of.ensures at c.spread-members-2.ensures) c.spread-members-2.auto.work
+    c.charge_heading-2.ensures c.charge_heading-2.auto.work
     c.cross.ensures c.cross.auto.work
 
 pub overflow_add-result-2 : goal.overflow_add-result-2
@@ -100,6 +98,6 @@ pub returns : goal.returns
 returns t c =
     let a = at_links c.requires.running.base c.requires.most c.if-r-eq0.false c.next_of-n.ensures c.first_of-f.ensures in
     spread_more c.requires a c.spread-later.ensures c.spread-later.auto.work c.if-f-eq0.false c.if-n-eq0.false
-    (rw c.price_of-price.ensures at c.spread-members-2.ensures) c.spread-members-2.auto.work
-    (rw (c.branch_of-branch.ensures, c.price_of-price.ensures) at c.charge_row-2.ensures) c.charge_row-2.auto.work
+    (rw c.price_of.ensures at c.spread-members-2.ensures) c.spread-members-2.auto.work
+    c.charge_heading-2.ensures c.charge_heading-2.auto.work
     c.cross.ensures c.cross.auto.work c.meet.ensures

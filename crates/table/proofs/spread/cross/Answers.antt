@@ -5,15 +5,14 @@ use Rattle.table.proofs.spread.cross.Goals as goal
 pub push-requires : goal.push-requires
 push-requires c = rw c.first_of.ensures (pushable_members c.requires)
 
-pub charge_row-requires : goal.charge_row-requires
-charge_row-requires c =
-    rw (c.branch_of-branch.ensures, c.price_of-price.ensures)
-    (charges_cross c.requires (rw c.first_of.ensures at c.push.ensures) c.push.auto.work)
+pub charge_heading-requires-clause-charges : goal.charge_heading-requires-clause-charges
+charge_heading-requires-clause-charges c =
+    charges_cross c.requires (rw c.first_of.ensures at c.push.ensures) c.push.auto.work
 
 pub returns-then-by_members : goal.returns-then-by_members
 returns-then-by_members c =
     crossed_members c.requires (rw c.first_of.ensures at c.push.ensures) c.push.auto.work
-    (rw (c.branch_of-branch.ensures, c.price_of-price.ensures) at c.charge_row.ensures)
+    c.charge_heading.ensures
 
 pub push-requires-2 : goal.push-requires-2
 push-requires-2 c = rw c.next_of.ensures (pushable_rest c.requires)
