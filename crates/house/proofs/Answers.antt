@@ -1,15 +1,15 @@
 -- What a call keeps that no row of its table refuses, and the two ways to answer it: of `house_form`, and of `compare`.
+use Rattle.std.proofs.lemmas.Bool.{or_parts}
 use Rattle.std.specs.declared.cmp.Ordering.{Ordering}
 use Rattle.std.specs.declared.cmp.Ordering.TheVariants.{Equal}
 use Prim.Native.Nat.{ℕ, ◌*◌}
 use mathlib.Core.Path.{◌≡◌, ap, ◌∙◌}
 use mathlib.Core.Bool.{false}
 use mathlib.Core.List.{List}
-use lib.Dec.{eqb, ltb}
+use lib.Dec.{ltb}
 use lib.ListN.{length}
 use borrow.Author.Tests.{ltb-false, eq-eqb}
 use Rattle.lists.specs.Lists.{Bytes, over}
-use Rattle.lists.proofs.Bools.{both_false}
 use Rattle.refusals.specs.Refusals.{passed, refusal}
 use Rattle.refusals.specs.Reply.{granted, refused}
 use Rattle.refusals.specs.declared.refusal.Refusal.{Refusal}
@@ -52,7 +52,7 @@ module _ (c : comparing.Call) where
   both_fit h =
       let rows = both_pass _ _ (passed_zero h) in
       let others = both_pass _ _ rows.1 in
-      let room = both_false _ _ (row_fails _ _ others.1) in
+      let room = or_parts _ _ (row_fails _ _ others.1) in
       (fits_by c.first c.first_form rows.0 room.0, fits_by c.second c.second_form others.0 room.1)
 
   module _ (first_small : Bytes c.first) (second_small : Bytes c.second) where

@@ -1,12 +1,12 @@
 -- How large the numbers are that a quick choice counts with, and that a call of `quick` is told.
-use Rattle.std.specs.Prelude.{if◌then◌else◌}
 use Prim.Native.Nat.{ℕ, ◌*◌, ◌≤◌}
-use mathlib.Core.Bool.{Bool, true, false, ◌&&◌, not}
+use mathlib.Core.Bool.{◌&&◌, not}
 use mathlib.Core.List.{List}
 use native.Mathlib.Omega.{arith}
 use lib.Dec.{ltb, leb}
 use lib.ListN.{length}
 use Rattle.lists.specs.Lists.{total}
+use Rattle.lists.proofs.Bools.{if_most}
 use Rattle.refusals.specs.Refusals.{row}
 use Rattle.refusals.proofs.Placed.{Placed, row_placed, then_placed}
 use Rattle.refusals.proofs.Replies.{told_place}
@@ -23,19 +23,15 @@ use Rattle.quick.specs.Quick.{with_taxon, added}
 use Rattle.quick.specs.Answer.{Call, most_picks, judged, reply}
 use Rattle.quick.specs.Inner.{ceiling_part}
 
-if_below : (b : Bool) (n k : ℕ) → n ≤ k → (if b then n else 0) ≤ k
-if_below true n k h = h
-if_below false n k h = omega arith
-
 module _ (o : List ℕ) (formed : WellFormed o) where
   pub diversity_bound : (s : List ℕ) → diversity o 0 s ≤ size o * most_length
   unfolding diversity rooted records
   diversity_bound s =
-      total_most _ most_length 1 (size o) (λ r l u. if_below (within o s r) (branch o r) most_length (formed.ranged r l (omega arith)).branch_most)
+      total_most _ most_length 1 (size o) (λ r l u. omega (arith, if_most (within o s r) (branch o r), (formed.ranged r l (omega arith)).branch_most))
 
   pub cost_bound : (s : List ℕ) → cost o s ≤ size o * most_price
   unfolding cost records
-  cost_bound s = total_most _ most_price 1 (size o) (λ r l u. if_below (within o s r) (price o r) most_price (formed.ranged r l (omega arith)).price_most)
+  cost_bound s = total_most _ most_price 1 (size o) (λ r l u. omega (arith, if_most (within o s r) (price o r), (formed.ranged r l (omega arith)).price_most))
 
   pub added_bound : (s : List ℕ) (t : ℕ) → added o s t ≤ size o * most_length
   unfolding added
@@ -43,8 +39,7 @@ module _ (o : List ℕ) (formed : WellFormed o) where
 
   pub part_most : (b : ℕ) (s : List ℕ) (r : ℕ) → ceiling_part o b s r ≤ most_records * most_length
   part_most b s r =
-      if_below (is_taxon o r && (not (chosen s r) && leb (price o r) b)) (added o s r) (most_records * most_length)
-      (omega (arith, added_bound s r, formed.size_most))
+      omega (arith, if_most (is_taxon o r && (not (chosen s r) && leb (price o r) b)) (added o s r), added_bound s r, formed.size_most)
 
   pub parts_most : (b : ℕ) (s : List ℕ) → total (ceiling_part o b s) (records o) ≤ most_records * (most_records * most_length)
   unfolding records

@@ -1,4 +1,5 @@
 -- The picks: each is the one that the rule names, the set fits, more picks never lower its diversity, and how many there are.
+use Rattle.std.proofs.lemmas.Bool.{and_parts}
 use Rattle.std.specs.Prelude.{if◌then◌else◌}
 use Prim.Native.Nat.{ℕ, zero, suc, ◌+◌, ◌-◌, ◌≤◌, ◌<◌}
 use mathlib.Core.Path.{◌≡◌, refl, sym, ap, subst, ◌∙◌}
@@ -9,7 +10,6 @@ use native.Mathlib.Omega.{arith}
 use lib.Dec.{eqb, ltb, leb}
 use borrow.Author.Tests.{eqb-true, eqb-false, ne_eqb, eq-eqb, ltb-true, ltb-false, leb-true, not-true}
 use Rattle.lists.specs.Lists.{from}
-use Rattle.lists.proofs.Bools.{both_true}
 use Rattle.outline.specs.Outline.{size, records, is_taxon, IsRecord}
 use Rattle.diversity.specs.Diversity.{chosen, diversity, cost, chosen_taxa}
 use Rattle.diversity.specs.Behind.{IsSet, Fits}
@@ -135,9 +135,9 @@ module _ (o : List ℕ) (b : ℕ) where
   pub pick_good : (s : List ℕ) (t : ℕ) → IsRecord o t → can_pick o b s t ≡ true → Good o b s → Good o b (with_taxon s t) × (chosen s t ≡ false)
   unfolding can_pick
   pick_good s t i e (x, f) =
-      let (taxon, others) = both_true (is_taxon o t) _ e in
-      let (lacks, last) = both_true (not (chosen s t)) _ others in
-      let (cheap, more) = both_true (leb (cost o (with_taxon s t)) b) _ last in (
+      let (taxon, others) = and_parts (is_taxon o t) _ e in
+      let (lacks, last) = and_parts (not (chosen s t)) _ others in
+      let (cheap, more) = and_parts (leb (cost o (with_taxon s t)) b) _ last in (
         (
           with_set o s x i taxon,
           record {

@@ -1,4 +1,5 @@
 -- What a call keeps that no row of the table refuses, and the two ways to answer it.
+use Rattle.std.proofs.lemmas.Bool.{or_parts}
 use Rattle.std.specs.Prelude.{Ok, Err}
 use Prim.Native.Nat.{ℕ, ◌-◌, ◌≤◌}
 use mathlib.Core.Path.{◌≡◌, refl, sym}
@@ -11,7 +12,6 @@ use lib.ListN.{length, get_or}
 use lib.Seq.{length-take-le, get_or-take}
 use borrow.Author.Tests.{ltb-false, eqb-true, eqb-false, eq-eqb}
 use Rattle.lists.specs.Lists.{over}
-use Rattle.lists.proofs.Bools.{both_false}
 use Rattle.lists.proofs.Walk.{lowest_none}
 use Rattle.refusals.specs.Refusals.{refusal, row_at}
 use Rattle.refusals.specs.declared.refusal.Refusal.{Refusal}
@@ -31,8 +31,8 @@ use Rattle.sheet.proofs.Sums.{quarters_sum, diversity_sum}
 -- a mark that is not bad may stand at its record
 mark_good : (o : List ℕ) (r m : ℕ) (t : Bool) → is_taxon o r ≡ t → (b : Bool) → eqb m 1 ≡ b → (ltb 1 m || (b && not t)) ≡ false → MarkAt o r m
 mark_good o r m true t true e h = inr (eqb-true m 1 e, t)
-mark_good o r m false t true e h = absurd (false≢true (sym (both_false (ltb 1 m) true h).1))
-mark_good o r m a t false e h = let d = eqb-false m 1 e in inl (omega (arith, ltb-false 1 m (both_false (ltb 1 m) false h).0))
+mark_good o r m false t true e h = absurd (false≢true (sym (or_parts (ltb 1 m) true h).1))
+mark_good o r m a t false e h = let d = eqb-false m 1 e in inl (omega (arith, ltb-false 1 m (or_parts (ltb 1 m) false h).0))
 
 module _ (c : Call) where
   -- the rows, one by one, where none holds

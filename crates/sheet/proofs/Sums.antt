@@ -1,8 +1,9 @@
 -- The sheet adds up: what a column sums to, how many rows there are, and where each taxon's row stands.
 use Rattle.std.specs.Prelude.{if◌then◌else◌}
+use Rattle.std.proofs.lemmas.List.{get_or-append-add}
 use Prim.Native.Nat.{ℕ, zero, suc, ◌+◌, ◌*◌, ◌-◌, ◌≤◌, ◌<◌}
 use mathlib.Core.Path.{◌≡◌, refl, sym, ap, fun_ext, ◌∙◌}
-use mathlib.Core.Bool.{Bool, true, false, ◌&&◌}
+use mathlib.Core.Bool.{Bool, true, false, ◌&&◌, and-true, and-false}
 use mathlib.Core.List.{List, [], ◌∷◌, ◌++◌}
 use native.Mathlib.Omega.{arith}
 use lib.Dec.{ltb}
@@ -12,7 +13,6 @@ use borrow.Author.Tests.{ltb-true, ltb-false}
 use Rattle.lists.specs.Lists.{one, from, total, over}
 use Rattle.lists.proofs.Buffers.{over_at_lem}
 use Rattle.lists.proofs.Walk.{from_both, from_last}
-use Rattle.lists.proofs.Bools.{and_true, and_false}
 use Rattle.outline.specs.Outline.{size, records, is_taxon}
 use Rattle.diversity.specs.Diversity.{chosen, diversity, cost, chosen_taxa}
 use Rattle.diversity.specs.Behind.{IsSet}
@@ -63,11 +63,6 @@ module _ (o s : List ℕ) (whole : length s ≡ size o) where
       ∙ ap (diversity o way) all
 
 -- ---- where a row stands
-get_d_past : (xs ys : List ℕ) (k j : ℕ) → k ≡ length xs + j → get_or (xs ++ ys) k 0 ≡ get_or ys j 0
-get_d_past [] ys k j e = let same : k ≡ j = omega arith in ap (λ n. get_or ys n 0) same
-get_d_past (x ∷ xs) ys zero j e = absurd (omega arith)
-get_d_past (x ∷ xs) ys (suc k) j e = get_d_past xs ys k j (omega arith)
-
 -- three numbers for each chosen record
 pub threes : (s : List ℕ) (f : ℕ → List ℕ) → ((r : ℕ) → length (f r) ≡ 3 * one (chosen s r)) → (rs : List ℕ)
     → length (texts f rs) ≡ 3 * total (λ r. one (chosen s r)) rs
@@ -125,10 +120,12 @@ module _ (o : List ℕ) (way : ℕ) (s : List ℕ) where
 
     row_stands : get_or (rows_of o way s) place 0 ≡ get_or (row_of o way s (suc i)) j 0
     row_stands =
+        let there : place ≡ length (texts row_at (from 1 i)) + j = omega (arith, rows_so_far i (omega arith)) in
         ap (λ xs. get_or xs place 0) parts
         ∙ get_or-append (texts row_at (from 1 (suc i))) _ 0 place in_part
         ∙ ap (λ xs. get_or xs place 0) (one_more i ∙ ap (λ b. texts row_at (from 1 i) ++ (if b then row_of o way s (suc i) else [])) e)
-        ∙ get_d_past (texts row_at (from 1 i)) (row_of o way s (suc i)) place j (omega (arith, rows_so_far i (omega arith)))
+        ∙ ap (λ n. get_or (texts row_at (from 1 i) ++ row_of o way s (suc i)) n 0) there
+        ∙ get_or-append-add (texts row_at (from 1 i)) (row_of o way s (suc i)) j 0
 
     -- and so it does in a sheet that the rows are written over
     pub row_over : (lent : List ℕ) → get_or (over (rows_of o way s) lent) place 0 ≡ get_or (row_of o way s (suc i)) j 0
@@ -145,8 +142,8 @@ set_few o s x =
     )
   where
     taxon_only : (r : ℕ) → 1 ≤ r → r ≤ size o → (t : Bool) → is_taxon o r ≡ t → chosen s r ≡ (chosen s r && t)
-    taxon_only r l u true e = sym (and_true (chosen s r))
-    taxon_only r l u false e = group_unchosen o s x r l u e ∙ sym (and_false (chosen s r))
+    taxon_only r l u true e = sym (and-true (chosen s r))
+    taxon_only r l u false e = group_unchosen o s x r l u e ∙ sym (and-false (chosen s r))
 
     second_least : (a b : Bool) → one (a && b) ≤ one b
     second_least true b = omega arith
