@@ -55,35 +55,19 @@ fn join_rest(work: &mut [u64], to: usize, price: usize, x: usize, y: usize, widt
     requires { Joins work.old to to 0 price x y y width }
     ensures { Joining to to 0 price x y y width work.old work.new }
 {
-    let (own, above, cost) = (to, 0, price);
+    let join = Join {
+        own: to,
+        above: 0,
+        cost: price,
+        x,
+        y,
+        z: y,
+    };
     if y == 0 {
-        join_row(
-            work,
-            to,
-            Join {
-                own,
-                above,
-                cost,
-                x,
-                y: 0,
-                z: 0,
-            },
-            width,
-        );
+        let alone = Join { y: 0, z: 0, ..join };
+        join_row(work, to, alone, width);
     } else {
-        join_row(
-            work,
-            to,
-            Join {
-                own,
-                above,
-                cost,
-                x,
-                y,
-                z: y,
-            },
-            width,
-        );
+        join_row(work, to, join, width);
     }
 }
 
