@@ -1,5 +1,5 @@
 // Cases of document 02, §2: a group with a chosen taxon below it is paid for, once.
-use super::show::{Sizes, case, case_with, chosen};
+use super::show::{Call, Sizes, chosen};
 use samples::headings::{deep_pair, free_pair, two_families};
 use samples::outlines::{Sample, comb, star, tree_a_with_headings};
 use samples::ways::Way::{Rooted, Unrooted};
@@ -117,9 +117,9 @@ pub fn prices(rt: &(impl Print + AllocGlobal)) -> io::Result<()> {
     let root = tree_a_with_headings(65535, 0);
     chosen(rt, "tree A, root heading 65,535", root.bytes(), &cases)?;
     let high_group = tree_a_with_headings(0, 65536);
-    case(rt, "tree A, group heading 65,536", high_group.bytes(), 8, 0)?;
+    Call::new(high_group.bytes(), 8, 0).case(rt, "tree A, group heading 65,536")?;
     let high_root = tree_a_with_headings(65536, 0);
-    case(rt, "tree A, root heading 65,536", high_root.bytes(), 8, 1)
+    Call::new(high_root.bytes(), 8, 1).case(rt, "tree A, root heading 65,536")
 }
 
 // 63 groups one within the other, a free taxon in each and two in the last. What the second has costs the first heading too.
@@ -144,7 +144,7 @@ pub fn counts(rt: &(impl Print + AllocGlobal)) -> io::Result<()> {
         ("heading 4,096, price 1, count 4,096: nothing", 4096),
     ] {
         let one = Sample::new(&[[0, 2, 0, heading, 0], [0, 0, 5, 1, 7]]);
-        case_with(rt, label, one.bytes(), 4096, 0, sizes)?;
+        Call::new(one.bytes(), 4096, 0).with(sizes).case(rt, label)?;
     }
     Ok(())
 }

@@ -1,5 +1,5 @@
 // Cases of document 02, §4: a set that fits holds every locked taxon.
-use super::show::{Sizes, case, case_with, chosen};
+use super::show::{Call, Sizes, chosen};
 use samples::headings::free_pair;
 use samples::outlines::{Sample, comb, star, tree_a, tree_a_with_headings};
 use samples::ways::Way::{Rooted, Unrooted};
@@ -91,7 +91,7 @@ pub fn alike(rt: &(impl Print + AllocGlobal)) -> io::Result<()> {
 // Two taxa with one plate, one of them locked.
 pub fn twins(rt: &(impl Print + AllocGlobal)) -> io::Result<()> {
     let twins = tree_a().with(5, [0, 0, 5, 2, 2147483659]);
-    case(rt, "plate 11 at 3, and locked at 5", twins.bytes(), 5, 0)
+    Call::new(twins.bytes(), 5, 0).case(rt, "plate 11 at 3, and locked at 5")
 }
 
 // Refusal 12 comes after all others.
@@ -107,10 +107,10 @@ pub fn order(rt: &(impl Print + AllocGlobal)) -> io::Result<()> {
             curve,
             work: 84,
         };
-        case_with(rt, label, dear.bytes(), 2, way, sizes)?;
+        Call::new(dear.bytes(), 2, way).with(sizes).case(rt, label)?;
     }
     let twins = tree_a().with(5, [0, 0, 5, 2, 11]).locked(1);
-    case(rt, "a lock too dear, plates alike", twins.bytes(), 2, 0)
+    Call::new(twins.bytes(), 2, 0).case(rt, "a lock too dear, plates alike")
 }
 
 // All 64 taxa locked, in 127 records: at no price, and below headings that cost more than any count together.
@@ -136,7 +136,9 @@ pub fn counts(rt: &(impl Print + AllocGlobal)) -> io::Result<()> {
         ("locked at 65,535, count 4,096: refused", 65535, 4096),
     ] {
         let one = Sample::new(&[[0, 2, 0, 0, 0], [0, 0, 5, price, 2147483655]]);
-        case_with(rt, label, one.bytes(), count, 0, sizes)?;
+        Call::new(one.bytes(), count, 0)
+            .with(sizes)
+            .case(rt, label)?;
     }
     Ok(())
 }

@@ -16,7 +16,6 @@ use std::io;
 
 fn main(rt: HostRuntime) -> io::Result<()> {
     starred::tree_a_cases(&rt)?;
-    starred::listed(&rt)?;
     starred::other_cases(&rt)?;
     starred::paired(&rt)?;
     limits::lengths(&rt)?;

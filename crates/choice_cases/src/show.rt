@@ -89,98 +89,95 @@ impl fmt::Display for Curve<'_> {
     }
 }
 
-// One call, and the part of its line that has the answer.
-fn answer(
-    rt: &(impl Print + AllocGlobal),
-    o: &[u8],
+// A call: an outline, a page count and a way, with buffers of these sizes.
+#[derive(Clone, Copy)]
+pub struct Call<'a> {
+    outline: &'a [u8],
     count: u32,
     way: u32,
     sizes: Sizes,
-) -> io::Result<()> {
-    let mut lent = Buffers::new(rt.alloc(), sizes)?;
-    let answer = choose(
-        o,
-        count,
-        way,
-        &mut lent.marks,
-        &mut lent.curve,
-        &mut lent.work,
-    );
-    let written = match answer {
-        Err(refusal) => {
-            print!(rt; "{}", Refused(refusal))?;
-            NOTHING
+}
+
+impl<'a> Call<'a> {
+    // With room for 127 records and a count of 2.
+    pub fn new(outline: &'a [u8], count: u32, way: u32) -> Self {
+        Self {
+            outline,
+            count,
+            way,
+            sizes: ROOM,
         }
-        Ok(
-            Figures {
-                diversity,
-                cost,
-                taxa,
-                spare,
-            },
-        ) => {
-            let written = Sizes {
-                marks: o.len() / 16,
-                curve: 2 * (count as usize + 1),
-                work: lent.work.iter().take_while(|x| **x == 0).count(),
-            };
-            print!(rt;
-                "0 0 {diversity} {cost} {taxa} {spare}, marks {}",
-                Marks(front(&lent.marks, written.marks))
-            )?;
-            print!(rt;
-                ", curve{}, work {}",
-                Curve(front(&lent.curve, written.curve)),
-                written.work
-            )?;
-            written
-        }
-    };
-    println!(rt; ", wrong {}", lent.wrong(written))
-}
-
-// Choosing from an outline, with buffers of these sizes.
-pub fn case_with(
-    rt: &(impl Print + AllocGlobal),
-    label: &str,
-    o: &[u8],
-    count: u32,
-    way: u32,
-    sizes: Sizes,
-) -> io::Result<()> {
-    print!(rt; "{label}: ")?;
-    answer(rt, o, count, way, sizes)
-}
-
-// Choosing from an outline.
-pub fn case(
-    rt: &(impl Print + AllocGlobal),
-    label: &str,
-    o: &[u8],
-    count: u32,
-    way: u32,
-) -> io::Result<()> {
-    case_with(rt, label, o, count, way, ROOM)
-}
-
-// The same both ways, with buffers of these sizes.
-pub fn both_with(
-    rt: &(impl Print + AllocGlobal),
-    label: &str,
-    o: &[u8],
-    count: u32,
-    sizes: Sizes,
-) -> io::Result<()> {
-    for way in BOTH {
-        print!(rt; "{label}, {way}: ")?;
-        answer(rt, o, count, way as u32, sizes)?;
     }
-    Ok(())
-}
 
-// Choosing both ways from an outline.
-pub fn both(rt: &(impl Print + AllocGlobal), label: &str, o: &[u8], count: u32) -> io::Result<()> {
-    both_with(rt, label, o, count, ROOM)
+    // The same call with buffers of these sizes.
+    pub fn with(self, sizes: Sizes) -> Self {
+        Self { sizes, ..self }
+    }
+
+    // What is printed of a selection, and how many bytes and numbers of the buffers it writes.
+    fn chosen(self, rt: &impl Print, figures: Figures, lent: &Buffers) -> io::Result<Sizes> {
+        let Figures {
+            diversity,
+            cost,
+            taxa,
+            spare,
+        } = figures;
+        let written = Sizes {
+            marks: self.outline.len() / 16,
+            curve: 2 * (self.count as usize + 1),
+            work: lent.work.iter().take_while(|x| **x == 0).count(),
+        };
+        print!(rt;
+            "0 0 {diversity} {cost} {taxa} {spare}, marks {}",
+            Marks(front(&lent.marks, written.marks))
+        )?;
+        print!(rt;
+            ", curve{}, work {}",
+            Curve(front(&lent.curve, written.curve)),
+            written.work
+        )?;
+        Ok(written)
+    }
+
+    // The part of its line that has the answer.
+    fn answer(self, rt: &(impl Print + AllocGlobal)) -> io::Result<()> {
+        let mut lent = Buffers::new(rt.alloc(), self.sizes)?;
+        let answer = choose(
+            self.outline,
+            self.count,
+            self.way,
+            &mut lent.marks,
+            &mut lent.curve,
+            &mut lent.work,
+        );
+        let written = match answer {
+            Ok(figures) => self.chosen(rt, figures, &lent)?,
+            Err(refusal) => {
+                print!(rt; "{}", Refused(refusal))?;
+                NOTHING
+            }
+        };
+        println!(rt; ", wrong {}", lent.wrong(written))
+    }
+
+    // Its line.
+    pub fn case(self, rt: &(impl Print + AllocGlobal), label: &str) -> io::Result<()> {
+        print!(rt; "{label}: ")?;
+        self.answer(rt)
+    }
+
+    // The lines of the same call in each of the two ways.
+    pub fn both(self, rt: &(impl Print + AllocGlobal), label: &str) -> io::Result<()> {
+        for way in BOTH {
+            print!(rt; "{label}, {way}: ")?;
+            let call = Self {
+                way: way as u32,
+                ..self
+            };
+            call.answer(rt)?;
+        }
+        Ok(())
+    }
 }
 
 // Choosing from an outline in each of these ways, at each of these counts. The words say what is chosen.
@@ -192,7 +189,7 @@ pub fn chosen(
 ) -> io::Result<()> {
     for (way, count, words) in cases {
         print!(rt; "{label}, {way}, count {count}: {words}: ")?;
-        answer(rt, o, *count, *way as u32, ROOM)?;
+        Call::new(o, *count, *way as u32).answer(rt)?;
     }
     Ok(())
 }

@@ -1,4 +1,5 @@
-// Outlines made for what is special about them.
+// Outlines made for what is special about them. Each is written out, record by record, though some look alike: what differs are their
+// fields, and a function that makes two of them would take these.
 use super::trial::Trial;
 use samples::headings::{deep_pair, free_pair, two_families};
 use samples::outlines::{Sample, comb, one_record, star, tree_a, tree_a_with_headings};

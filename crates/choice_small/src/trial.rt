@@ -92,18 +92,18 @@ impl<R: Print> Trial<'_, R> {
 
     // The curve, column by column. A column that no set fits has a diversity of 0 and the highest cost.
     fn curve(&mut self, count: u32, bests: &[Option<Worth>], curve: &[u32]) -> io::Result<()> {
-        for (i, got) in curve.iter().enumerate() {
-            let b = i / 2;
+        for (b, [diversity, cost]) in curve.as_chunks::<2>().0.iter().enumerate() {
             match bests.get(b) {
                 Some(best) => {
-                    let (diversity, cost) = best.map_or((0, u32::MAX), |x| (x.diversity, x.cost.0));
-                    if i % 2 == 0 {
-                        self.value("diversity of column", count, b, diversity, *got)?;
-                    } else {
-                        self.value("cost of column", count, b, cost, *got)?;
-                    }
+                    let (most, least) = best.map_or((0, u32::MAX), |x| (x.diversity, x.cost.0));
+                    self.value("diversity of column", count, b, most, *diversity)?;
+                    self.value("cost of column", count, b, least, *cost)?;
                 }
-                None => self.value("number of the curve at", count, i, UNTOUCHED as u32, *got)?,
+                None => {
+                    let what = "number of the curve at";
+                    self.value(what, count, 2 * b, UNTOUCHED as u32, *diversity)?;
+                    self.value(what, count, 2 * b + 1, UNTOUCHED as u32, *cost)?;
+                }
             }
         }
         Ok(())

@@ -2,7 +2,7 @@
 use Rattle.std.specs.declared.cmp.Ordering.{Ordering}
 use Rattle.std.specs.declared.cmp.Ordering.TheVariants.{Equal}
 use Prim.Native.Nat.{ℕ, ◌*◌}
-use mathlib.Core.Path.{◌≡◌, sym, ap, ◌∙◌}
+use mathlib.Core.Path.{◌≡◌, ap, ◌∙◌}
 use mathlib.Core.Bool.{false}
 use mathlib.Core.List.{List}
 use lib.Dec.{eqb, ltb}
@@ -10,10 +10,10 @@ use lib.ListN.{length}
 use borrow.Author.Tests.{ltb-false, eq-eqb}
 use Rattle.lists.specs.Lists.{Bytes, over}
 use Rattle.lists.proofs.Bools.{both_false}
-use Rattle.refusals.specs.Refusals.{Ruling, passed, refusal}
+use Rattle.refusals.specs.Refusals.{passed, refusal}
 use Rattle.refusals.specs.Reply.{granted, refused}
 use Rattle.refusals.specs.declared.refusal.Refusal.{Refusal}
-use Rattle.refusals.proofs.Refusals.{both_pass, row_fails, refusal_not_zero}
+use Rattle.refusals.proofs.Refusals.{both_pass, row_fails, passed_zero, refused_not_zero}
 use Rattle.outline.specs.Outline.{size}
 use Rattle.outline.specs.Answer.{checked}
 use Rattle.outline.proofs.WellFormed.{accepted_formed}
@@ -23,10 +23,6 @@ use Rattle.house.specs.Inner.{FormFits}
 use Rattle.house.specs.Answer as answer
 use Rattle.house.specs.Compared as comparing
 
--- rows that pass have the number 0
-none_given : {t : Ruling} → passed ≡ t → t.number ≡ 0
-none_given e = ap (λ (t : Ruling). t.number) (sym e)
-
 -- a form that is long enough
 fits_by : (o form : List ℕ) → (checked o).number ≡ 0 → ltb (length form) (16 * size o) ≡ false → FormFits o form
 fits_by o form z e = record { formed = accepted_formed o (eq-eqb _ _ z); room = ltb-false _ _ e }
@@ -35,7 +31,7 @@ fits_by o form z e = record { formed = accepted_formed o (eq-eqb _ _ z); room = 
 module _ (c : answer.Call) where
   pub form_fits : passed ≡ answer.judged c → FormFits c.outline c.form
   unfolding answer.judged
-  form_fits h = let rows = both_pass _ _ (none_given h) in fits_by c.outline c.form rows.0 (row_fails _ _ rows.1)
+  form_fits h = let rows = both_pass _ _ (passed_zero h) in fits_by c.outline c.form rows.0 (row_fails _ _ rows.1)
 
   module _ (small : Bytes c.outline) where
     pub form_answered : {form : List ℕ} → passed ≡ answer.judged c → form ≡ over (house_form c.outline) c.form
@@ -46,7 +42,7 @@ module _ (c : answer.Call) where
     pub form_refused : (e : Refusal) → refusal e ≡ answer.judged c → answer.Answered c (refusal e) c.form
     unfolding answer.form_after
     form_refused e h =
-        let number : eqb (answer.judged c).number 0 ≡ false = rw (← h) (refusal_not_zero e) in
+        let number = refused_not_zero e h in
         record { told_judged = h; form_written = rw number; outline_bytes = small }
 
 -- ---- comparing
@@ -54,7 +50,7 @@ module _ (c : comparing.Call) where
   pub both_fit : passed ≡ comparing.judged c → FormFits c.first c.first_form × FormFits c.second c.second_form
   unfolding comparing.judged comparing.too_short
   both_fit h =
-      let rows = both_pass _ _ (none_given h) in
+      let rows = both_pass _ _ (passed_zero h) in
       let others = both_pass _ _ rows.1 in
       let room = both_false _ _ (row_fails _ _ others.1) in
       (fits_by c.first c.first_form rows.0 room.0, fits_by c.second c.second_form others.0 room.1)
@@ -76,7 +72,7 @@ module _ (c : comparing.Call) where
         → comparing.Answered c (refused Equal (refusal e)) c.first_form c.second_form
     unfolding comparing.reply comparing.first_after comparing.second_after
     compare_refused e h =
-        let number : eqb (comparing.judged c).number 0 ≡ false = rw (← h) (refusal_not_zero e) in
+        let number = refused_not_zero e h in
         record {
           told_reply = rw number (ap (refused Equal) h);
           first_written = rw number;

@@ -9,7 +9,8 @@ use super::judge::judge;
 use refusals::Refusal;
 use std::cmp::Ordering;
 
-// The order of two forms by their bytes: the first on which they differ decides, and a shorter beginning comes first.
+// The order of two forms by their bytes: the first on which they differ decides, and a shorter beginning comes first. By itself, so that the
+// rule is stated of any bytes.
 fn order_of(form_a: &[u8], form_b: &[u8]) -> Ordering
     ensures { result ≡ slice_cmp nat_cmp form_a.now form_b.now }
 {

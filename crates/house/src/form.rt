@@ -8,10 +8,9 @@ ghost use Rattle.house.specs.Answer.{call, Answered};
 ghost use Rattle.house.specs.Inner.{RecordFits, ChainFits, ChainWritten, FormFits};
 
 use super::chains::Chains;
-use super::plates::smallest_plates;
 use outline::checker::check_with_room;
 use outline::fields::{branch_of, plate_field_of, price_of};
-use records::put_record;
+use records::Record;
 use refusals::Refusal;
 use text::Pen;
 
@@ -32,18 +31,19 @@ fn put_at(o: &[u8], r: usize, k: usize, next: usize, first: usize, form: &mut [u
         buffer: form,
         at: 16 * (k - 1),
     };
-    put_record(
-        &mut pen,
+    let record = Record {
         next,
         first,
-        branch_of(o, r),
-        price_of(o, r),
-        plate_field_of(o, r),
-    );
+        branch: branch_of(o, r),
+        price: price_of(o, r),
+        plate: plate_field_of(o, r),
+    };
+    record.put(&mut pen);
 }
 
 // Writes the ordered chain that begins at record r, each record before its members, the first of them as record k; gives the number after
-// the last.
+// the last. The number goes along, and no pen: a record is written after its members and the rest of its chain, once both of its links are
+// known, and so to a place before what is written already.
 fn write_chain(o: &[u8], chains: &Chains, r: usize, k: usize, form: &mut [u8]) -> usize
     requires { ChainFits o.now chains.now r k form.old }
     ensures { ChainWritten o.now chains.now r k form.old form.new result }
@@ -62,8 +62,7 @@ pub fn write_form(o: &[u8], form: &mut [u8])
     requires { FormFits o.now form.old }
     ensures { form.new ≡ over (house_form o.now) form.old }
 {
-    let plates = smallest_plates(o);
-    let chains = Chains::of(o, &plates);
+    let chains = Chains::of(o);
     write_chain(o, &chains, 1, 1, form);
 }
 

@@ -7,21 +7,21 @@ ghost use Rattle.house.specs.Inner.{Smallest, Enterable, Entered};
 use outline::fields::{first_of, next_of, plate_of};
 use outline::limits::NUMBERS;
 
-// The smaller of two plates, where 0 is none.
+// The smaller of two plates, where 0 is none: a group's plate field is 0, and an `Option` would be turned back into it for the definition.
 fn smaller(p: u32, q: u32) -> u32
     ensures { result ≡ smaller p q }
 {
     if p == 0 {
-        return q;
+        q
+    } else if q == 0 {
+        p
+    } else {
+        p.min(q)
     }
-    if q == 0 {
-        return p;
-    }
-    p.min(q)
 }
 
 // Enters the smallest plate at or below each record of the chain that begins at record r, and of all below; gives the smallest of all, 0 for
-// no record. It follows both links, which lead to later records.
+// no record. Document 01 asks for the recursion over both links, which lead to later records; a pass from the last record on would do too.
 fn enter_smallest(o: &[u8], r: usize, plates: &mut [u32; NUMBERS]) -> u32
     requires { Enterable o.now r plates.old }
     ensures { Entered o.now r plates.old plates.new result }

@@ -1,13 +1,13 @@
 -- What an answer's numbers, the curve and the sheet print is what the call prints; and that the total is the first line's cost and
 -- diversity.
 use Rattle.std.specs.Prelude.{Result, Ok, Err, IsOk}
-use Prim.Native.Nat.{ℕ, zero, suc, ◌+◌, ◌*◌, ◌-◌, ◌≤◌, ◌<◌}
+use Prim.Native.Nat.{ℕ, zero, suc, ◌+◌, ◌*◌, ◌≤◌, ◌<◌}
 use mathlib.Core.Path.{◌≡◌, refl, sym, ap, ap₂, ◌∙◌}
 use mathlib.Core.Bool.{Bool, true, false}
 use mathlib.Core.List.{List, [], ◌∷◌, ◌++◌, append-nil}
 use native.Mathlib.Omega.{arith}
-use lib.ListN.{length, get_or, take, drop, replicate, length-drop, length-replicate}
-use lib.Seq.{take_all, take-length}
+use lib.ListN.{length, get_or, take, drop, replicate, length-replicate}
+use lib.Seq.{get_or-take, take-length}
 use Rattle.lists.specs.Lists.{one, from, over}
 use Rattle.lists.proofs.Buffers.{over_taken}
 use borrow.Author.Tests.{eq-eqb}
@@ -30,20 +30,20 @@ use Rattle.sheet.specs.Sheet.{row_of, rows_of}
 use Rattle.sheet.proofs.Answers.{set_long, listable}
 use Rattle.sheet.proofs.Demands.{set_listed}
 use Rattle.sheet.proofs.Sums.{quarters_sum, diversity_sum, row_over, set_few}
-use Rattle.text.specs.Text.{labelled, texts}
+use Rattle.text.specs.Text.{line, labelled, texts}
 use Rattle.text.proofs.Texts.{texts_ext, texts_last}
-use Rattle.listing.specs.FromBuffers.{column_text, taxon_text, columns_text, taxa_text, Listed, whole_text}
+use Rattle.listing.specs.FromBuffers.{column_text, taxon_text, columns_text, taxa_text, Listed}
 use Rattle.listing.specs.Printed.{call_with, call_of, refusal_text, first_line, column_line, taxon_line, total_word, total_line, sheet_text}
 use Rattle.listing.specs.Printed.{selection_text, answer_text}
 
--- the call that bytes make: what follows the first four of them is the outline
-pub call_made : (bytes : List ℕ) {o : List ℕ} {count way : ℕ} → o ≡ take (length bytes - 4) (drop 4 bytes)
-    → count ≡ short bytes 0 → way ≡ short bytes 2
+-- the call that bytes make: their first four are two numbers, and what follows is the outline
+pub call_made : (bytes : List ℕ) {numbers o : List ℕ} {count way : ℕ} → numbers ≡ take 4 bytes → o ≡ drop 4 bytes
+    → count ≡ short numbers 0 → way ≡ short numbers 2
     → call_with o count way ≡ call_of bytes
-unfolding call_of
-call_made bytes {o} {count} {way} e n w =
-    let whole : take (length bytes - 4) (drop 4 bytes) ≡ drop 4 bytes = take_all (length bytes - 4) (drop 4 bytes) (rw length-drop (omega arith)) in
-    rw (e ∙ whole, n, w)
+unfolding call_of short
+call_made bytes e f n w =
+    let at = λ (i : ℕ) (h : i < 4). get_or-take 4 bytes i 0 h in
+    rw (f, n, w, e, at 0 (omega arith), at 1 (omega arith), at 2 (omega arith), at 3 (omega arith))
 
 -- a refusal
 pub refused_text : (c : Call) (t : Ruling) → 1 ≤ t.number → refused no_figures t ≡ reply c → refusal_text t ≡ answer_text c
@@ -165,7 +165,9 @@ module _ (c : Call) (f : Figures) (e : told (Ok f) ≡ reply c) where
       ap (λ (r : Reply Figures). r.figures) is
 
   pub selected_text : {marks curve : List ℕ} → marks ≡ marks_after c → curve ≡ curve_after c
-      → whole_text (c.count ∷ c.way ∷ f.diversity ∷ f.cost ∷ f.taxa ∷ []) curve (c.count + 1) c.outline c.way marks ≡ answer_text c
+      → line (c.count ∷ c.way ∷ f.diversity ∷ f.cost ∷ f.taxa ∷ [])
+      ++ (columns_text curve (c.count + 1) ++ sheet_text c.outline c.way (take (size c.outline) marks))
+      ≡ answer_text c
   unfolding answer_text selection_text first_line curve_after
   selected_text {marks} {curve} m v =
       let v' : curve ≡ over (curve_of c) c.curve = rw is_selected_lem at v in

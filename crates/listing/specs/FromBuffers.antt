@@ -1,12 +1,10 @@
 -- The lines of a selection, read from the curve and from the sheet.
-use Rattle.std.specs.Prelude.{ℕ, ◌≡◌, List, [], ◌∷◌, ◌++◌, take, replicate}
+use Rattle.std.specs.Prelude.{ℕ, ◌≡◌, List, [], ◌∷◌, replicate}
 use Rattle.lists.specs.Lists.{from}
-use Rattle.outline.specs.Outline.{size}
 use Rattle.choice.specs.Answer.{diversity_at, cost_at}
 use Rattle.sheet.specs.Answer.{call, judged}
 use Rattle.sheet.specs.Demands as row
 use Rattle.text.specs.Text.{line, texts}
-use Rattle.listing.specs.Printed.{sheet_text}
 
 -- column b, from the curve
 unfoldable pub column_text : List ℕ → ℕ → List ℕ
@@ -26,7 +24,3 @@ taxa_text sheet rows = texts (taxon_text sheet) (from 0 rows)
 -- marks that `sheet` lists in the 192 numbers that the program lends
 abbrev pub Listed : List ℕ → ℕ → List ℕ → Type 0
 Listed o way marks = (judged (call o way marks (replicate 192 0))).number ≡ 0
-
--- after a first line of some numbers
-abbrev pub whole_text : List ℕ → List ℕ → ℕ → List ℕ → ℕ → List ℕ → List ℕ
-whole_text first curve width o way marks = line first ++ (columns_text curve width ++ sheet_text o way (take (size o) marks))

@@ -10,7 +10,8 @@ pub fn put_columns(pen: &mut Pen<u8>, curve: &[u32], width: usize)
     requires { (2 * width ≤ length curve.now) × LongEnough (columns_text curve.now width) pen.old }
     ensures { Put (columns_text curve.now width) pen.old pen.new }
 {
-    for b in 0..width {
-        pen.put_line(&[b as u64, curve[2 * b] as u64, curve[2 * b + 1] as u64]);
+    let columns = &curve.as_chunks::<2>().0[..width];
+    for (b, [diversity, cost]) in columns.iter().enumerate() {
+        pen.put_line(&[b as u64, *diversity as u64, *cost as u64]);
     }
 }

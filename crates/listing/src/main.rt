@@ -14,7 +14,8 @@ mod taxa;
 use std::io::{Read, Write};
 
 // Reads until the buffer is full or the input ends, and answers how many bytes it has put at the beginning of the buffer. Each turn
-// puts at least one, so that there are no more turns than bytes.
+// puts at least one, so that there are no more turns than bytes. A loop, and not `read_to_end`: that fills a `Vec`, and this program
+// asks for no memory, so that its axioms are those of reading and printing alone.
 fn read_full<R: Read>(reader: &mut R, buffer: &mut [u8]) -> std::io::Result<usize>
     ensures within { ReadsAtMost result buffer.new }
     ensures bytes { IfOk result (λ n. Consumes (R.remaining reader.old) (R.remaining reader.new) (take n buffer.new)) }
@@ -35,9 +36,10 @@ fn read_full<R: Read>(reader: &mut R, buffer: &mut [u8]) -> std::io::Result<usiz
 }
 
 fn main(rt: HostRuntime) -> std::io::Result<()> {
-    let mut input = [0u8; 2052];
+    let mut input = [0u8; list::MOST_JUDGED];
     let read = read_full(&mut rt.reader(), &mut input)?;
-    let mut buffer = [0u8; 16384];
+    // a buffer, and no `String`: it is proved that no listing is longer, and no memory is asked for
+    let mut buffer = [0u8; list::MOST_PRINTED];
     let size = list::list(&input[..read], &mut buffer);
     std::io::writer(&rt).write_all(&buffer[..size])
 }

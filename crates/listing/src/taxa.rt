@@ -8,18 +8,17 @@ ghost use Rattle.listing.specs.Printed.{sheet_text};
 use sheet::sheet;
 use text::Pen;
 
-// A line for each row: plate, quarters added, diversity added. It is `put_columns` but for a row's numbers: the borrow checker covers
-// no closure that answers `[u64; N]`, and one of `[u64; 3]` would need a contract at each caller, longer than the loop.
+// A choice has at most 64 taxa, and a row has 3 numbers.
+const SHEET: usize = 192;
+
+// A line for each row: plate, quarters added, diversity added. One function for this and `put_columns` would be no plainer: a column's
+// line begins with its number, which the curve doesn't have, and the function would have to be told so.
 fn put_taxa(pen: &mut Pen<u8>, sheet: &[u32], rows: usize)
     requires { (3 * rows ≤ length sheet.now) × LongEnough (taxa_text sheet.now rows) pen.old }
     ensures { Put (taxa_text sheet.now rows) pen.old pen.new }
 {
-    for k in 0..rows {
-        pen.put_line(&[
-            sheet[3 * k] as u64,
-            sheet[3 * k + 1] as u64,
-            sheet[3 * k + 2] as u64,
-        ]);
+    for [plate, quarters, diversity] in &sheet.as_chunks::<3>().0[..rows] {
+        pen.put_line(&[*plate as u64, *quarters as u64, *diversity as u64]);
     }
 }
 
@@ -29,7 +28,7 @@ pub fn put_sheet(pen: &mut Pen<u8>, o: &[u8], way: u32, marks: &[u8])
     requires long_enough { LongEnough (sheet_text o.now way (take (size o.now) marks.now)) pen.old }
     ensures { Put (sheet_text o.now way (take (size o.now) marks.now)) pen.old pen.new }
 {
-    let mut lent = [0u32; 192];
+    let mut lent = [0u32; SHEET];
     let sums = sheet(o, way, marks, &mut lent).unwrap();
     put_taxa(pen, &lent, sums.rows as usize);
     pen.put(b"total");

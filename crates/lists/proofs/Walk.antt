@@ -8,7 +8,7 @@ use native.Mathlib.Nat.{mul-add}
 use native.Mathlib.Omega.{arith}
 use lib.Dec.{eqb}
 use borrow.Author.Tests.{eq-eqb, ne_eqb, eqb-true, eqb-false, not-false}
-use Rattle.std.specs.Prelude.{if◌then◌else◌, Some, None, is_some}
+use Rattle.std.specs.Prelude.{if◌then◌else◌, Some, None, is_some, unwrap_or}
 use Rattle.lists.specs.Lists.{from, anywhere, total, lowest, nonzero}
 use Rattle.lists.proofs.Bools.{both_false}
 
@@ -187,6 +187,14 @@ nonzero_some n {r} e = go (eqb n 0) refl e
     go : (b : Bool) → eqb n 0 ≡ b → Some r ≡ (if b then None else Some n) → (r ≡ n) × (1 ≤ n)
     go true z h = absurd cc
     go false z h = let p : r ≡ n = cc in let d = eqb-false n 0 z in (p, omega arith)
+
+-- the number itself, where nothing is 0
+pub nonzero_value : (n : ℕ) → unwrap_or (nonzero n) 0 ≡ n
+nonzero_value n = go (eqb n 0) refl
+  where
+    go : (b : Bool) → eqb n 0 ≡ b → unwrap_or (if b then None else Some n) 0 ≡ n
+    go true z = sym (eqb-true n 0 z)
+    go false z = refl
 
 pub nonzero_none : (n : ℕ) → None ≡ nonzero n → n ≡ 0
 nonzero_none n e = go (eqb n 0) refl e

@@ -1,7 +1,7 @@
 -- Sums over the forest of a record: how large they are, and how those of a clade, of a chain and of all records come about.
 use Rattle.std.specs.Prelude.{if◌then◌else◌}
 use Prim.Native.Nat.{ℕ, ◌+◌, ◌*◌, ◌-◌, ◌^◌, ◌≤◌, ◌<◌}
-use mathlib.Core.Path.{◌≡◌, refl, sym, ap, ◌∙◌}
+use mathlib.Core.Path.{◌≡◌, sym, ap, ◌∙◌}
 use mathlib.Core.Bool.{Bool, true, false, ◌&&◌}
 use mathlib.Core.List.{List}
 use native.Mathlib.Omega.{arith}
@@ -94,8 +94,8 @@ module _ {o : List ℕ} {r : ℕ} {s : List ℕ} {all : ℕ} {members : Measure}
 
 -- ---- a chain
 module _ {o : List ℕ} {s : List ℕ} {all : ℕ} where
-  pub no_chain : ChainMeasured o 0 s all (record { taxa = 0; cost = 0; diversity = 0 })
-  no_chain = rw (tree_zero o) (record { taxa_is = refl; cost_is = refl; diversity_is = refl })
+  pub no_chain : {r : ℕ} (m : Measure) → r ≡ 0 → (m.taxa ≡ 0) × ((m.cost ≡ 0) × (m.diversity ≡ 0)) → ChainMeasured o r s all m
+  no_chain m z (taxa, (cost, diversity)) = rw (z, tree_zero o) (record { taxa_is = taxa; cost_is = cost; diversity_is = diversity })
 
   module _ {r : ℕ} (base : Measurable o s) (l : 1 ≤ r) (u : r ≤ size o) {own rest : Measure}
       (first_is : CladeMeasured o r s all own) (next_is : ChainMeasured o (next o r) s all rest) where

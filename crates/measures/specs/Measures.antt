@@ -5,6 +5,11 @@ use Rattle.outline.specs.WellFormed.{WellFormed}
 use Rattle.diversity.specs.Diversity.{diversity, cost, chosen_taxa}
 use Rattle.measures.specs.declared.figures.Measure.{Measure}
 
+-- r is the number of a mark
+pub record HasMark (s : List ℕ) (r : ℕ) : Type 0 where
+  pub low : 1 ≤ r
+  pub high : r ≤ length s
+
 -- an accepted outline, and a mark for each record
 pub record Measurable (o s : List ℕ) : Type 0 where
   pub formed : WellFormed o

@@ -5,6 +5,7 @@ ghost use Rattle.outline.specs.Outline.{branch, price, IsRecord};
 ghost use Rattle.measures.specs.Inner.{InClade, CladeMeasured, InChain, ChainMeasured};
 
 use super::figures::Measure;
+use super::marks::is_chosen;
 use outline::fields::{branch_of, first_of, next_of, price_of};
 
 // What record r adds to the cost, with so many chosen taxa at or below it.
@@ -12,10 +13,7 @@ fn price_counted(o: &[u8], r: usize, below: u32) -> u32
     requires { IsRecord o.now r }
     ensures { result ≡ (if positive below then price o.now r else 0) }
 {
-    if below == 0 {
-        return 0;
-    }
-    price_of(o, r)
+    if below == 0 { 0 } else { price_of(o, r) }
 }
 
 // What record r adds to the diversity, with so many of all chosen taxa at or below it.
@@ -23,10 +21,11 @@ fn branch_counted(o: &[u8], r: usize, below: u32, all: u32) -> u32
     requires { IsRecord o.now r }
     ensures { result ≡ (if positive below && positive (all - below) then branch o.now r else 0) }
 {
-    if (below == 0) | (all <= below) {
-        return 0;
+    if below == 0 || all <= below {
+        0
+    } else {
+        branch_of(o, r)
     }
-    branch_of(o, r)
 }
 
 // The clade of record r, from its members.
@@ -34,7 +33,7 @@ fn measure_clade(o: &[u8], r: usize, marks: &[u8], all: u32, members: Measure) -
     requires { InClade o.now r marks.now all members }
     ensures { CladeMeasured o.now r marks.now all result }
 {
-    let own = (marks[r - 1] == 1) as u32;
+    let own = is_chosen(marks, r) as u32;
     let below = members.taxa + own;
     Measure {
         taxa: below,
@@ -49,11 +48,7 @@ pub fn measure_chain(o: &[u8], r: usize, marks: &[u8], all: u32) -> Measure
     ensures { ChainMeasured o.now r marks.now all result }
 {
     if r == 0 {
-        return Measure {
-            taxa: 0,
-            cost: 0,
-            diversity: 0,
-        };
+        return Measure::default();
     }
     let f = first_of(o, r);
     let members = measure_chain(o, f, marks, all);

@@ -4,7 +4,7 @@ ghost use Rattle.measures.specs.Inner.{Addable, Added};
 use std::ops::Add;
 
 // The number of its taxa, their cost with the headings above them, and their diversity.
-#[derive(Clone, Copy, Debug, PartialEq, Eq)]
+#[derive(Clone, Copy, Debug, Default, PartialEq, Eq)]
 pub struct Measure {
     pub taxa: u32,
     pub cost: u32,

@@ -8,7 +8,7 @@ use Rattle.std.proofs.Common.{add-zero}
 use native.Mathlib.Nat.{pow-succ', pow-le-pow_right}
 use native.Mathlib.Omega.{arith}
 use lib.ListN.{length, get_or, take, drop, length-drop, drop_of_length-le}
-use lib.Seq.{drop-cons, take_all, get_or-drop}
+use lib.Seq.{drop-cons, drop-drop, take_all, get_or-drop}
 use borrow.Author.Tests.{lt-ltb, le-ltb}
 use Rattle.std.specs.Char.{is_ascii_digit}
 use Rattle.std.specs.List.{prefix_len}
@@ -111,6 +111,26 @@ overlong c v (b ∷ s) h = go (is_ascii_digit b) refl h (overlong (suc c) (10 * 
 rest_from : (text : List ℕ) (i : ℕ) → take (length text - i) (drop i text) ≡ drop i text
 rest_from text i = take_all (length text - i) (drop i text) (rw length-drop (omega arith))
 
+-- what is left of a text from a place on are its own last bytes
+pub last_from : (text : List ℕ) (i : ℕ) → i ≤ length text → drop i text ≡ drop (length text - length (drop i text)) text
+last_from text i h =
+    let same : i ≡ length text - length (drop i text) = rw length-drop (omega arith) in
+    ap (λ n. drop n text) same
+
+-- and the last bytes of those are its own too
+pub last_of_last : (text rest past : List ℕ) → length rest ≤ length text → length past ≤ length rest
+    → rest ≡ drop (length text - length rest) text → past ≡ drop (length rest - length past) rest
+    → past ≡ drop (length text - length past) text
+last_of_last text rest past h l r p =
+    let same : length text - length rest + (length rest - length past) ≡ length text - length past = omega arith in
+    p ∙ ap (drop (length rest - length past)) r ∙ drop-drop (length rest - length past) (length text - length rest) text
+    ∙ ap (λ n. drop n text) same
+
+-- a token ends before a place past the first byte
+met_at : {text : List ℕ} {t : Token} (i : ℕ) → 0 < i → i ≤ length text → tokens_of text ≡ t ∷ tokens_of (drop i text)
+    → Met text t (drop i text)
+met_at {text} i some h e = record { shows = e; shorter = rw length-drop (omega arith); rest_is = last_from text i h }
+
 -- the first i bytes of a text are digits, which make v
 pub record Counting (text : List ℕ) (i v : ℕ) : Type 0 where
   pub few : i ≤ 9
@@ -145,34 +165,34 @@ module _ {text : List ℕ} {i v : ℕ} (k : Counting text i v) (h : i < length t
       → Met text (Token.Number v) left
   counting_ends d e =
       let some : 1 ≤ i = go i refl in
-      met_from i
-      record {
-        shows = k.whole ∙ other_ends text i i v h (digit e) ∙ number_ended i v _ some k.few;
-        shorter = rw length-drop (omega arith);
-      }
+      met_from i (met_at i some (omega arith) (k.whole ∙ other_ends text i i v h (digit e) ∙ number_ended i v _ some k.few))
     where
       go : (m : ℕ) → i ≡ m → 1 ≤ i
       go zero z = absurd (false≢true (sym (digit e) ∙ ap (λ j. is_digit (get_or text j 0)) z ∙ d.digit))
       go (suc m) z = omega arith
 
   -- it is a tenth digit
-  pub counting_fails : is_ascii_digit (get_or text i 0) ≡ true → i ≡ 9 → {n : ℕ} → n ≡ prefix_len is_ascii_digit left
+  pub counting_fails : is_ascii_digit (get_or text i 0) ≡ true → i ≡ 9 → {n : ℕ} → n ≡ prefix_len is_ascii_digit left → n ≤ length left
       → Met text Token.Other (take (length left - n) (drop n left))
-  counting_fails d z {n} e =
+  counting_fails d z {n} e l =
       let r = rest_from text i in
       let some : 1 ≤ n =
       rw (e, r, drop-cons text i 0 h) (subst (λ t. 1 ≤ cond t (1 + prefix_len is_ascii_digit (drop (suc i) text)) 0) (sym d) (omega arith)) in
-      subst (Met text Token.Other) (sym (rest_from left n))
-      record {
-        shows = k.whole ∙ ap (tokens_from i v) (sym r) ∙ overlong i v left (omega arith) ∙ ap (λ m. Token.Other ∷ tokens_of (drop m left)) (sym e);
-        shorter = rw length-drop (omega (arith, ap length r, length-drop i text));
-      }
+      let same : drop n left ≡ drop (i + n) text = ap (drop n) r ∙ drop-drop n i text in
+      subst (Met text Token.Other) (sym same ∙ sym (rest_from left n))
+      (met_at (i + n) (omega arith) (omega (arith, l, ap length r, length-drop i text))
+      (k.whole ∙ ap (tokens_from i v) (sym r) ∙ overlong i v left (omega arith)
+      ∙ ap (λ m. Token.Other ∷ tokens_of (drop m left)) (sym e) ∙ ap (λ s. Token.Other ∷ tokens_of s) same))
 
 -- the text ends
 pub counting_last : {text : List ℕ} {i v : ℕ} → Counting text i v → length text ≤ i → 0 < length text → Met text (Token.Number v) []
 unfolding tokens_from
 counting_last {text} {i} {v} k end some =
-    record { shows = k.whole ∙ tokens_none text i i v end ∙ number_ended i v [] (omega arith) k.few; shorter = some }
+    record {
+      shows = k.whole ∙ tokens_none text i i v end ∙ number_ended i v [] (omega arith) k.few;
+      shorter = some;
+      rest_is = sym (drop_of_length-le text (omega arith));
+    }
 
 -- ---- the first token
 
@@ -209,10 +229,12 @@ module _ {text : List ℕ} {i : ℕ} (k : Skipping text i) (h : i < length text)
       record { inside = rw length-drop (omega arith); digit = rw (get_or-drop, add-zero) (ap digit_sign (sym e)) }
 
   pub skipping_number : {t : Token} {rest : List ℕ} → Met (take (length text - i) (drop i text)) t rest → Met text t rest
-  skipping_number m =
+  skipping_number {t} {rest} m =
+      let q = subst (λ s. Met s t rest) (rest_from text i) m in
       record {
-        shows = k.whole ∙ ap tokens_of (sym (rest_from text i)) ∙ m.shows;
-        shorter = omega (arith, m.shorter, ap length (rest_from text i), length-drop i text);
+        shows = k.whole ∙ q.shows;
+        shorter = omega (arith, q.shorter, length-drop i text);
+        rest_is = last_of_last _ _ _ (omega (arith, length-drop i text)) (omega (arith, q.shorter)) (last_from text i (omega arith)) q.rest_is;
       }
 
   pub skipping_meets : {s : Sign} → s ≡ here → (s ≡ Sign.Blank → ⊥) → (s ≡ Sign.Digit → ⊥) → {t : Token} → t ≡ token_of s
@@ -220,7 +242,5 @@ module _ {text : List ℕ} {i : ℕ} (k : Skipping text i) (h : i < length text)
   skipping_meets {s} e b d {t} f =
       let w = tokens_at text i s h e in
       met_from (i + 1)
-      record {
-        shows = k.whole ∙ w.1 ∙ alone_token s w.0 (tokens_of (drop (i + 1) text)) b d ∙ ap (λ u. u ∷ tokens_of (drop (i + 1) text)) (sym f);
-        shorter = rw length-drop (omega arith);
-      }
+      (met_at (i + 1) (omega arith) (omega arith)
+      (k.whole ∙ w.1 ∙ alone_token s w.0 (tokens_of (drop (i + 1) text)) b d ∙ ap (λ u. u ∷ tokens_of (drop (i + 1) text)) (sym f)))

@@ -1,5 +1,5 @@
 -- What the code and the arguments on texts speak of: tokens, the plates of an outline, and trees whose numbers can be spelled.
-use Rattle.std.specs.Prelude.{if◌then◌else◌, ℕ, ◌≤◌, ◌<◌, ◌≡◌, true, List, [], ◌∷◌, length, get_or}
+use Rattle.std.specs.Prelude.{if◌then◌else◌, ℕ, ◌-◌, ◌≤◌, ◌<◌, ◌≡◌, true, List, [], ◌∷◌, length, get_or, drop}
 use Rattle.outline.specs.Outline.{records, plate, is_taxon}
 use Rattle.newick.specs.Grammar.{Kind, part, chain, Tree, taxon, group, last, more, most_number}
 use Rattle.newick.specs.Parsing.{tokens_of, is_digit}
@@ -24,10 +24,11 @@ token_of Sign.Digit = Token.Other
 token_of Sign.Blank = Token.Other
 token_of Sign.Other = Token.Other
 
--- the first token of a text, and what is left after it
+-- the first token of a text, and what is left after it, which are the text's own last bytes
 pub record Met (text : List ℕ) (token : Token) (rest : List ℕ) : Type 0 where
   pub shows : tokens_of text ≡ token ∷ tokens_of rest
   pub shorter : length rest < length text
+  pub rest_is : rest ≡ drop (length text - length rest) text
 
 -- ---- plates
 

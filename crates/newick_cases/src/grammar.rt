@@ -1,4 +1,5 @@
-// The grammar, clause by clause: what it has, and what it does not.
+// The grammar, clause by clause: what it has, and what it does not. A function is the texts of its clause, so that two look alike; what
+// they share is `cases`, and one for both would take the texts.
 use super::show::{SEVEN, SEVEN_AND_EIGHT, case, cases, read_to};
 use std::io;
 

@@ -1,4 +1,4 @@
-// Limits, and one more.
+// Limits, and one more. A function is the cases of its limit, so that two look alike; what they share is `long`, `deep` and `starred`.
 ghost use Rattle.std.specs.Prelude.{◌≤◌};
 
 use super::show::{SEVEN, case, cases, read_long};

@@ -13,7 +13,8 @@ pub const SEVEN: [u32; 2] = [7, 1];
 // Pairs for plates 7 and 8.
 pub const SEVEN_AND_EIGHT: [u32; 4] = [7, 1, 8, 2];
 
-// A call, and the part of its line that has the answer.
+// A call, and the part of its line that has the answer. Text, pairs and buffer go on as they come: a struct of them would be made by
+// each of three callers and taken apart here, to be no more than the arguments of `read`.
 fn answer(rt: &impl Print, text: &[u8], pairs: &[u32], outline: &mut [u8]) -> io::Result<()> {
     match read(text, pairs, outline) {
         Err(refusal) => {

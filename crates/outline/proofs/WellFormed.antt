@@ -12,7 +12,7 @@ use Rattle.lists.proofs.Walk.{lowest_none, anywhere_none}
 use Rattle.refusals.proofs.Refusals.{both_pass, row_fails, row_at_fails}
 use Rattle.outline.specs.Outline.{size, next, first, plate, is_taxon}
 use Rattle.outline.specs.Answer.{size_rows, record_rows, checked, is_accepted}
-use Rattle.outline.specs.WellFormed.{Later, Ranged, WellFormed}
+use Rattle.outline.specs.WellFormed.{Linked, Later, Ranged, WellFormed}
 use Rattle.outline.specs.Rules.{bad_field, stray, named, bad_link, taxa, has_plate, is_duplicate, most_records, most_taxa}
 
 -- ---- each rule, from its test
@@ -135,3 +135,11 @@ unfolding left
 left_less o (suc r) zero p m h = omega arith
 left_less o (suc r) (suc q) p m h = omega (arith, h.later (omega arith), h.most)
 left_less o zero q p m h = absurd (omega arith)
+
+-- so at the first of a record's members, and at the next of its chain
+module _ {o : List ℕ} (linked : Linked o) {r q : ℕ} (low : 0 < r) (most : r ≤ size o) where
+  pub first_less : q ≡ first o r → (left o q < left o r) × (q ≤ size o)
+  first_less e = let later = linked.first_later r low most in rw e (left_less o r (first o r) low most later, later.most)
+
+  pub next_less : q ≡ next o r → (left o q < left o r) × (q ≤ size o)
+  next_less e = let later = linked.next_later r low most in rw e (left_less o r (next o r) low most later, later.most)

@@ -1,10 +1,12 @@
-// The fields of an outline's records. An outline and a record's number are passed side by side: a struct that holds a reference has a
-// value at the call and one at the return, and each clause would say `record.entry.outline.now record.entry.number` for `o.now r`.
+// The fields of an outline's records. An outline and a record's number are passed side by side. A struct of both was tried and is no
+// plainer: a clause says `price r.now.0 r.now.1` for `price o.now r`, it can't be `Copy`, and a link that may be 0 does not fit it. These are
+// no methods of an accepted outline, since the check reads fields before it accepts one; why there is no such type stands in
+// measures/src/lib.rt.
 ghost use Rattle.std.specs.Prelude.{◌≡◌, ◌+◌, ◌<◌, length};
 ghost use Rattle.outline.specs.Outline.{short, long, next, first, branch, price, plate_field, plate, is_taxon, locked, IsRecord};
 
 // Bit 31 of a plate field, the lock; the bits below it are the plate's number.
-pub const LOCK: u32 = 2147483648;
+pub const LOCK: u32 = 1 << 31;
 
 // The number of two bytes at a place: `from_le_bytes` under the definition's name.
 pub fn short_at(o: &[u8], at: usize) -> u16

@@ -1,6 +1,6 @@
-// The conditions of refusals 5 to 8, record by record. Why outline and record are no struct stands in fields.rt. Here and in the crates
-// above, conditions are joined by `|` and `&`, which give one value and one goal: with `||` and `&&` each part is a path of its own, with
-// a goal of its own, and a value where the paths meet is no longer an equation of all parts.
+// The conditions of refusals 5 to 8, record by record. Why outline and record are no struct stands in fields.rt. Where a condition has
+// several parts, `|` and `&` give one value and one goal; with `||` and `&&` each part is a path of its own with a goal of its own, twice to
+// four times as many answers here.
 ghost use Rattle.std.specs.Prelude.{◌≡◌, ◌≤◌, ◌<◌, get_or};
 ghost use Rattle.lists.specs.Lists.{from, lowest as lowest_of, nonzero};
 ghost use Rattle.outline.specs.Inner.{counted, Tally};

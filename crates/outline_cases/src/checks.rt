@@ -1,4 +1,4 @@
-// Cases of the check.
+// Cases of the check. A function is the cases of its rule, so that two look alike; what they share is `check` and `changed`.
 use super::show::{changed, check};
 use samples::outlines::{Sample, comb, one_record, star, tree_a};
 use std::io;

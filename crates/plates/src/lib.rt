@@ -15,7 +15,7 @@ ghost use Rattle.house.specs.Answer.{call as forming};
 ghost use Rattle.house.specs.Compared.{call as comparing};
 ghost use Rattle.view.specs.Answer.{call as viewing};
 ghost use Rattle.view.specs.View.{house_view, buyer_view};
-ghost use Rattle.plates.specs.Interface.{Chosen, QuicklyChosen, SheetListed, TextRead, TextWritten, Viewed, Formed, order_number, TreesCompared, ruling_in};
+ghost use Rattle.plates.specs.Interface.{Chosen, QuicklyChosen, SheetListed, TextRead, TextWritten, Viewed, Formed, TreesCompared, Given, ruling_in};
 ghost use Rattle.outline.specs.Rules.{most_records};
 
 use choice::choose;
@@ -25,7 +25,6 @@ use quick::quick;
 use reading::read;
 use refusals::Refusal;
 use sheet::sheet as list;
-use std::cmp::Ordering;
 use view::{view_buyer, view_house};
 use writing::write;
 
@@ -45,8 +44,7 @@ fn refuse(refusal: Refusal, answer: &mut [u32]) -> u32
 // Writes number and place of what a function without figures answers; gives the number.
 fn tell(answered: Result<(), Refusal>, answer: &mut [u32; 2]) -> u32
     requires { (told_of answered).place ≤ most_records }
-    ensures written { ruling_in answer.new ≡ told_of answered }
-    ensures number { result ≡ (told_of answered).number }
+    ensures { Given 2 ruling_in (λ t. t ≡ told_of answered) result answer.new }
 {
     match answered {
         Ok(()) => {
@@ -79,10 +77,7 @@ pub extern "C" fn plates_check(outline: &[u8], place: &mut u32) -> u32
 pub extern "C" fn plates_find(outline: &[u8], plate: u32) -> u32
     ensures { result ≡ found_at outline.now plate }
 {
-    match find_record(outline, plate) {
-        None => 0,
-        Some(r) => r as u32,
-    }
+    find_record(outline, plate).unwrap_or(0) as u32
 }
 
 // Chooses, and writes number, place, diversity, cost, number of taxa and spare; the number is given as well.
@@ -224,17 +219,6 @@ pub extern "C" fn plates_house_form(outline: &[u8], form: &mut [u8], answer: &mu
     tell(house_form(outline, form), answer)
 }
 
-// The number of an order, as C compares.
-fn order_number(order: Ordering) -> i32
-    ensures { result ≡ order_number order }
-{
-    match order {
-        Ordering::Less => -1,
-        Ordering::Equal => 0,
-        Ordering::Greater => 1,
-    }
-}
-
 // Compares two trees by their house forms, and writes number and place, and beside them the order, 0 on a refusal; the number is given as well.
 #[unsafe(no_mangle)]
 pub extern "C" fn plates_compare(
@@ -251,7 +235,7 @@ pub extern "C" fn plates_compare(
 {
     match compare(a, b, form_a, form_b) {
         Ok(found) => {
-            *order = order_number(found);
+            *order = found as i32;
             *answer = [0, 0];
             0
         }

@@ -1,4 +1,6 @@
 -- What the records would add, one after the other: the sums, and what is told of the record that is looked at.
+use Rattle.std.specs.Array.{AllOfLen}
+use Rattle.std.proofs.lemmas.List.{ext_get_or}
 use Prim.Native.Nat.{ℕ, ◌+◌, ◌≤◌, ◌<◌}
 use mathlib.Core.Path.{◌≡◌, refl, sym, ap, ◌∙◌}
 use mathlib.Core.Bool.{Bool, true, false, ◌&&◌, not, and-false}
@@ -59,6 +61,14 @@ module _ {gain : ℕ → ℕ} where
         go q l u false d = let other = eqb-false q r d in beside q other ∙ g.before q l (omega arith)
 
 -- ---- both
+-- a table as `default` makes it
+zeros : {n : ℕ} {table : List ℕ} → AllOfLen (λ k. k ≡ 0) table n → table ≡ replicate n 0
+zeros {n} {table} a =
+    ext_get_or 0 table (replicate n 0) (a.long ∙ sym (length-replicate {A = ℕ} n 0)) (λ i l. a.at i 0 (omega (arith, a.long)) ∙ sym (zeros_at n i))
+
+pub no_sums : (sums : Sums) → AllOfLen (λ k. k ≡ 0) sums.added numbers × AllOfLen (λ k. k ≡ 0) sums.costs numbers → NoSums sums
+no_sums sums (added, costs) = record { added_are = zeros added; costs_are = zeros costs }
+
 pub sums_start : {o s : List ℕ} {sums : Sums} → NoSums sums → SumsUpTo o s 1 sums
 sums_start n = record { added_are = rw n.added_are gains_start; costs_are = rw n.costs_are gains_start }
 

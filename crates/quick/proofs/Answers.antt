@@ -12,7 +12,7 @@ use borrow.Author.Tests.{ltb-false}
 use Rattle.lists.specs.Lists.{over}
 use Rattle.refusals.specs.Refusals.{refusal, row}
 use Rattle.refusals.specs.declared.refusal.Refusal.{Refusal}
-use Rattle.refusals.proofs.Refusals.{both_pass, row_fails, refusal_not_zero}
+use Rattle.refusals.proofs.Refusals.{both_pass, row_fails, refused_not_zero}
 use Rattle.outline.specs.Outline.{size}
 use Rattle.outline.specs.Answer.{size_rows, record_rows}
 use Rattle.outline.specs.WellFormed.{WellFormed}
@@ -108,5 +108,5 @@ module _ (c : Call) where
   pub refused_answered : (e : Refusal) → refusal e ≡ judged c → Answered c (told (Err e)) c.marks
   unfolding reply marks_after
   refused_answered e h =
-      let number : eqb (judged c).number 0 ≡ false = rw (← h) (refusal_not_zero e) in
+      let number = refused_not_zero e h in
       record { told_reply = rw (number, h); marks_written = rw number }

@@ -26,12 +26,12 @@ leb_shift c a b = go (leb a b) refl
     go true e = e ∙ sym (le-leb (c + a) (c + b) (omega (arith, leb-true a b e)))
     go false e = e ∙ sym (lt-leb (c + a) (c + b) (omega (arith, leb-false a b e)))
 
-pub can_pick_is : {o s : List ℕ} {sums : Sums} {t : ℕ} → KnownAt o s sums t → (room : ℕ) {a : Bool} → a ≡ is_taxon o t
-    → (a && (not (chosen s t) && (leb (get_or sums.costs t 0) room && ltb 0 (get_or sums.added t 0)))) ≡ can_pick o (cost o s + room) s t
+pub can_pick_is : {o s : List ℕ} {sums : Sums} {t : ℕ} → KnownAt o s sums t → (room : ℕ) {a b : Bool} → a ≡ is_taxon o t → b ≡ chosen s t
+    → (a && (not b && (leb (get_or sums.costs t 0) room && ltb 0 (get_or sums.added t 0)))) ≡ can_pick o (cost o s + room) s t
 unfolding can_pick
-can_pick_is {o} {s} {sums} {t} k room e =
+can_pick_is {o} {s} {sums} {t} k room e d =
     let cheap = leb_shift (cost o s) (added_cost o s t) room in
-    rw (e, cost_with o s t, ← cheap, k.known.0, k.known.1) refl
+    rw (e, d, cost_with o s t, ← cheap, k.known.0, k.known.1) refl
 
 rather_is : (o s : List ℕ) (sums : Sums) (t u : ℕ) → Known o s sums t → Known o s sums u
     → rather_by (get_or sums.added t 0) (get_or sums.added u 0) (get_or sums.costs t 0) (get_or sums.costs u 0) t u ≡ rather o s t u

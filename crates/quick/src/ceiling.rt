@@ -7,6 +7,7 @@ ghost use Rattle.quick.specs.Inner.{ceiling_part, LookAt, PartAt, HasHeld, Bound
 
 use super::sums::Sums;
 use super::ways::Ways;
+use measures::is_chosen;
 use outline::fields::{is_taxon, price_of};
 
 // What record r counts for. One that is held adds nothing. It shares the first four lines with `look_at`, and one walk for both would take
@@ -19,11 +20,12 @@ fn part_at(o: &[u8], marks: &[u8], ways: &Ways, count: u32, sums: &mut Sums, r: 
         return 0;
     }
     sums.add_up(o, &ways.parents, r);
-    let open = marks[r - 1] != 1;
+    let open = !is_chosen(marks, r);
     if is_taxon(o, r) & (open & (price_of(o, r) <= count)) {
-        return sums.added[r];
+        sums.added[r]
+    } else {
+        0
     }
-    0
 }
 
 // What all records count for.
@@ -31,7 +33,7 @@ fn parts_of(o: &[u8], marks: &[u8], ways: &Ways, count: u32) -> u64
     requires { HasHeld o.now marks.now ways.now }
     ensures { result ≡ total (ceiling_part o.now count marks.now) (records o.now) }
 {
-    let mut sums = Sums::none();
+    let mut sums = Sums::default();
     let mut sum = 0;
     for r in 1..=o.len() / 16 {
         sum += part_at(o, marks, ways, count, &mut sums, r) as u64;

@@ -1,6 +1,6 @@
 // Picking one taxon: the greatest added diversity, then the fewest added quarters, then the lowest record. The set is marked, with
-// its ways; `room` is how many quarters are left. These stay parameters: a struct that holds the outline and the marks by reference has
-// a value at the call and one at the return, and each clause would say `set.entry.marks.now` for `marks.now`.
+// its ways; `room` is how many quarters are left. These stay parameters: in a struct of references a clause would say `set.now.marks.now`
+// for `marks.now`.
 ghost use Rattle.std.specs.Prelude.{◌≡◌, ◌+◌, ◌<◌};
 ghost use Rattle.diversity.specs.Diversity.{cost};
 ghost use Rattle.quick.specs.Quick.{can_pick, in_hand, picked};
@@ -8,6 +8,7 @@ ghost use Rattle.quick.specs.Inner.{pick_of, KnownAt, HandAt, LookAt, LookedAt, 
 
 use super::sums::Sums;
 use super::ways::Ways;
+use measures::is_chosen;
 use outline::fields::is_taxon;
 
 // A taxon to be picked, and the quarters that it adds.
@@ -22,20 +23,21 @@ fn can_pick(o: &[u8], marks: &[u8], room: u32, sums: &Sums, t: usize) -> bool
     requires { KnownAt o.now marks.now sums.now t }
     ensures { result ≡ can_pick o.now (cost o.now marks.now + room) marks.now t }
 {
-    let open = marks[t - 1] != 1;
+    let open = !is_chosen(marks, t);
     is_taxon(o, t) & (open & ((sums.costs[t] <= room) & (0 < sums.added[t])))
 }
 
-// The record in hand, after record t was looked at; 0 for none, as in the definition: with an `Option<usize>` each clause would say
-// `nonzero (in_hand .. (unwrap_or hand 0) t)` for `in_hand .. hand t`. With an `Option<Pick>` 64 picks took 1.2 times as long.
+// The record in hand, after record t was looked at; 0 for none, as in the definition, which folds over numbers. With an `Option<Pick>`, which
+// each turn hands on as three words, 64 picks took 1.2 times as long.
 fn in_hand(o: &[u8], marks: &[u8], room: u32, sums: &Sums, hand: usize, t: usize) -> usize
     requires { HandAt o.now marks.now sums.now hand t }
     ensures { result ≡ in_hand o.now (cost o.now marks.now + room) marks.now hand t }
 {
     if can_pick(o, marks, room, sums, t) & ((hand == 0) | sums.rather(t, hand)) {
-        return t;
+        t
+    } else {
+        hand
     }
-    hand
 }
 
 // Looks at record r: what it would add, and whether it is taken in hand. One that is held adds nothing, and is passed over.
@@ -75,7 +77,7 @@ pub fn next_pick(o: &[u8], marks: &[u8], ways: &Ways, room: u32) -> Option<Pick>
     requires { HasHeld o.now marks.now ways.now }
     ensures { result ≡ pick_of o.now marks.now (picked o.now (cost o.now marks.now + room) marks.now) }
 {
-    let mut sums = Sums::none();
+    let mut sums = Sums::default();
     let taxon = look_at_all(o, marks, ways, room, &mut sums);
     if taxon == 0 {
         return None;

@@ -3,11 +3,12 @@ ghost use Rattle.std.specs.Prelude.{◌≡◌};
 ghost use Rattle.outline.specs.WellFormed.{WellFormed};
 ghost use Rattle.quick.specs.Inner.{Parents, Rising, Joined, Markable, HasHeld};
 
+use measures::is_chosen;
 use outline::fields::{first_of, next_of};
 use outline::limits::NUMBERS;
 
-// The parent of each record, 0 for record 1: a record is that of its first member, and hands its own on to the next of its chain. By
-// number: a turn reads at a record's and writes at those of its links.
+// The parent of each record, 0 for record 1: a record is that of its first member, and hands its own on to the next of its chain. With 0,
+// where both tables of `Sums` have 0, record 1 adds up as any other. By number: a turn reads at a record's and writes at those of its links.
 fn parents_of(o: &[u8]) -> [usize; NUMBERS]
     requires { WellFormed o.now }
     ensures { Parents o.now result }
@@ -24,7 +25,7 @@ fn parents_of(o: &[u8]) -> [usize; NUMBERS]
 }
 
 // The parent of each record, and whether a marked set holds it: whether it has a taxon of the set at or below it, so that its branch
-// and its price count.
+// and its price count. Two tables, as in `Sums`: each has laws of its own.
 #[derive(Drop)]
 pub struct Ways {
     pub parents: [usize; NUMBERS],
@@ -42,8 +43,7 @@ impl Ways {
             held: [false; NUMBERS],
         };
         for r in 1..=o.len() / 16 {
-            // the marks are bytes, as the C interface lends them
-            if marks[r - 1] == 1 {
+            if is_chosen(marks, r) {
                 ways.hold(r);
             }
         }
@@ -55,7 +55,7 @@ impl Ways {
         requires { Rising self.old t }
         ensures { Joined self.old t self.new }
     {
-        // up from parent to parent, which no range or iterator does
+        // up from parent to parent: `iter::successors` goes so too, but tells no bound on how far, so a loop over it is not proved to end
         let mut at = t;
         while at != 0 {
             if self.held[at] {

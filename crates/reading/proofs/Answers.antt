@@ -138,14 +138,14 @@ module _ (text pairs outline : List ℕ) where
 
     -- a tree of few records, judged and written
     pub placed_answered : {d : Draft} {r : Reply Figures} {left : List ℕ} → TreeDrafted pairs text d
-        → TreePlaced (take (16 * d.records) d.bytes) pairs outline r left → Answered (call text pairs outline) r left
+        → TreePlaced (take (16 * d.cursor.records) d.bytes) pairs outline r left → Answered (call text pairs outline) r left
     unfolding judged reply outline_after
     placed_answered {d} {r} {left} k w =
         let t = k.tree_of in
         let p : parsed text ≡ tree t = parsed_short text h ∙ k.grown_is in
         let w' : TreePlaced (layout (price_in pairs) t) pairs outline r left =
-        subst (λ o. TreePlaced o pairs outline r left) (begins pairs k.drafted.0 d.bytes d.records t k.counted k.drafted.2) w in
+        subst (λ o. TreePlaced o pairs outline r left) (begins pairs k.drafted.0 d.bytes d.cursor.records t k.counted k.drafted.2) w in
         record {
-          told_reply = rw (p, rows_placed text t pairs (length outline) p (omega (arith, k.counted, d.few)), ← layout_size (price_in pairs) t) w'.told_placed;
-          outline_written = rw (p, rows_placed text t pairs (length outline) p (omega (arith, k.counted, d.few))) w'.outline_placed;
+          told_reply = rw (p, rows_placed text t pairs (length outline) p (omega (arith, k.counted, d.cursor.few)), ← layout_size (price_in pairs) t) w'.told_placed;
+          outline_written = rw (p, rows_placed text t pairs (length outline) p (omega (arith, k.counted, d.cursor.few))) w'.outline_placed;
         }

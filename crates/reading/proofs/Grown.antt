@@ -11,7 +11,8 @@ use Rattle.newick.specs.Layout.{layout}
 use Rattle.newick.specs.Parsing.{tokens_of, ends, Outcome, got, read_in, closed, unread, tree, grown}
 use Rattle.outline.specs.Rules.{most_records}
 use Rattle.newick.specs.declared.token.Token.{Token}
-use Rattle.reading.specs.Inner.{IfGot, if_failed, if_got, Fresh, Drafted, Short, short_failed, short_ended, Unread, unread_bad, unread_many, PartRead, TreeDrafted, NotDrafted, no_tree, large_tree}
+use Rattle.reading.specs.Inner.{left_of, IfGot, if_failed, if_got, Fresh, Drafted, Short, short_failed, short_ended, Unread, unread_bad, unread_many, PartRead, TreeDrafted, NotDrafted, no_tree, large_tree}
+use Rattle.reading.specs.declared.cursor.Cursor.{Cursor}
 use Rattle.reading.specs.declared.draft.Draft.{Draft}
 use Rattle.reading.specs.declared.draft.Part.{Part}
 use Rattle.reading.specs.declared.flaw.Flaw.{Flaw}
@@ -41,33 +42,40 @@ unfolding ends
 closed_short short_failed = refl
 closed_short short_ended = refl
 
-pub tree_unread : {k : ℕ} {text : List ℕ} {flaw : Flaw} → Unread part Short k text flaw → k ≡ 0 → NotDrafted text flaw
-unfolding grown
-tree_unread {text = text} (unread_bad g) z = no_tree (closed_short (g (2 * length text + 1) (omega arith)))
-tree_unread {text = text} (unread_many g) z = large_tree (λ t e. omega (arith, closed_if t (g (2 * length text + 1) (omega arith)) e))
+module _ {pairs text : List ℕ} {start : Draft} (f : Fresh text pairs start) where
+  pub tree_unread : {flaw : Flaw} → Unread part Short start.cursor flaw → NotDrafted text flaw
+  unfolding grown
+  tree_unread (unread_bad g) =
+      no_tree (closed_short (subst (λ s. Short (read_in (2 * length s + 1) part (tokens_of s))) f.left_is (g _ (omega arith))))
+  tree_unread (unread_many g) =
+      large_tree
+      (λ t e. omega (arith, f.none, closed_if t (g _ (omega arith)) (ap (λ s. closed (read_in (2 * length s + 1) part (tokens_of s))) f.left_is ∙ e)))
 
-module _ {pairs text rest : List ℕ} {start mid : Draft} {p : Part} {token : Token} (f : Fresh pairs start)
-    (o : PartRead start mid text p token rest) where
-  closes_by : (b : Bool) → b ≡ ends (token ∷ tokens_of rest) → grown text ≡ (if b then tree o.tree else unread)
-  closes_by = closes text (token ∷ tokens_of rest) o.tree (o.read.reads (2 * length text + 1) (omega arith))
+  module _ {mid : Draft} {p : Part} {token : Token} (o : PartRead start mid p token) where
+    abbrev left : List Token
+    left = token ∷ tokens_of (left_of mid.cursor)
 
-  -- no semicolon ends it
-  pub tree_open : false ≡ ends (token ∷ tokens_of rest) → NotDrafted text Flaw.Malformed
-  tree_open e = no_tree (closes_by false e)
+    closes_by : (b : Bool) → b ≡ ends left → grown text ≡ (if b then tree o.tree else unread)
+    closes_by =
+        closes text left o.tree
+        (subst (λ s. read_in (2 * length s + 1) part (tokens_of s) ≡ got o.tree left) f.left_is (o.read.reads _ (omega arith)))
 
-  pub tree_reads : {d : Draft} → length start.bytes ≡ 16 * most_records → true ≡ ends (token ∷ tokens_of rest) → Drafted 0 0 p mid d
-      → TreeDrafted pairs text d
-  unfolding layout
-  tree_reads {d} long e w =
-      record {
-        tree_of = o.tree;
-        grown_is = closes_by true e;
-        counted = omega (arith, w.records_stay, o.read.counted, f.none);
-        drafted = (
-          start.bytes,
-          long,
-          w.written ∙ rw (o.read.pairs_stay, f.pairs_are)
-              (own_drafted pairs 0 0 start.bytes o.tree (omega (arith, o.read.counted, mid.few)) long (rw f.none at o.fields)
-              (rw (f.none, f.pairs_are) at o.drafted)),
-        );
-      }
+    -- no semicolon ends it
+    pub tree_open : false ≡ ends left → NotDrafted text Flaw.Malformed
+    tree_open e = no_tree (closes_by false e)
+
+    pub tree_reads : {d : Draft} → length start.bytes ≡ 16 * most_records → true ≡ ends left → Drafted 0 0 p mid d → TreeDrafted pairs text d
+    unfolding layout
+    tree_reads {d} long e w =
+        record {
+          tree_of = o.tree;
+          grown_is = closes_by true e;
+          counted = omega (arith, ap (λ (c : Cursor). c.records) w.cursor_stays, o.read.counted, f.none);
+          drafted = (
+            start.bytes,
+            long,
+            w.written ∙ rw (o.read.pairs_stay, f.pairs_are)
+                (own_drafted pairs 0 0 start.bytes o.tree (omega (arith, o.read.counted, mid.cursor.few)) long (rw f.none at o.fields)
+                (rw (f.none, f.pairs_are) at o.drafted)),
+          );
+        }

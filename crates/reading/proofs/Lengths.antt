@@ -7,6 +7,7 @@ use Rattle.newick.specs.Grammar.{part, Tree}
 use Rattle.newick.specs.Inner.{Met}
 use Rattle.newick.specs.Parsing.{tokens_of, failed, got, with_number, with_length}
 use Rattle.newick.specs.declared.token.Token.{Token}
+use Rattle.newick.proofs.Tokens.{last_of_last}
 use Rattle.reading.specs.Inner.{NoNumber, NumberRead, Short, short_failed, short_ended, Stopped, Followed}
 
 -- ---- the number after a colon
@@ -31,7 +32,7 @@ module _ {text rest : List ℕ} {s : Token} (m : Met text s rest) where
   pub number_there : (l : ℕ) → s ≡ Token.Number l → NumberRead text l rest
   unfolding with_number
   number_there l e =
-      record { reads = λ made. ap (with_number made) (m.shows ∙ ap (λ t. t ∷ tokens_of rest) e); shorter = m.shorter }
+      record { reads = λ made. ap (with_number made) (m.shows ∙ ap (λ t. t ∷ tokens_of rest) e); shorter = m.shorter; rest_is = m.rest_is }
 
 -- ---- a length, and the token after it
 no_colon : (t : Token) → (t ≡ Token.Colon → ⊥) → (made : ℕ → Tree part) (ts : List Token) → with_length made (t ∷ ts) ≡ got (made 0) (t ∷ ts)
@@ -52,7 +53,12 @@ stops_nowhere text e made = subst Short (sym (ap (with_length made) e)) short_en
 module _ {text rest : List ℕ} {s : Token} (m : Met text s rest) where
   -- another token than a colon
   pub follows_other : (s ≡ Token.Colon → ⊥) → Followed text 0 s rest
-  follows_other o = record { reads = λ made. ap (with_length made) m.shows ∙ no_colon s o made (tokens_of rest); shorter = m.shorter }
+  follows_other o =
+      record {
+        reads = λ made. ap (with_length made) m.shows ∙ no_colon s o made (tokens_of rest);
+        shorter = m.shorter;
+        rest_is = m.rest_is;
+      }
 
   -- a colon, and no number or one
   module _ (e : s ≡ Token.Colon) where
@@ -73,4 +79,7 @@ module _ {text rest : List ℕ} {s : Token} (m : Met text s rest) where
           record {
             reads = λ made. at_colon made ∙ g.reads made ∙ ap (got (made l)) n.shows;
             shorter = omega (arith, m.shorter, g.shorter, n.shorter);
+            rest_is =
+                last_of_last _ _ _ (omega (arith, m.shorter)) (omega (arith, g.shorter, n.shorter)) m.rest_is
+                (last_of_last _ _ _ (omega (arith, g.shorter)) (omega (arith, n.shorter)) g.rest_is n.rest_is);
           }

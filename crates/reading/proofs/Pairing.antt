@@ -1,5 +1,5 @@
 -- Pairs of numbers gone through one by one, by the code and for the row that judges them.
-use Rattle.std.specs.Prelude.{if◌then◌else◌, Option, None, Some, is_some, count_by}
+use Rattle.std.specs.Prelude.{if◌then◌else◌, Option, None, Some, is_some, option_map, MatchOption, count_by}
 use Rattle.std.specs.List.{find, list_any}
 use Rattle.std.specs.Simd.{first_chunks}
 use Rattle.std.proofs.lemmas.List.Sums.{sum_by-cons}
@@ -43,6 +43,12 @@ of_plate p pair = eqb (get_or pair 0 0) p
 abbrev pub price_of : Option (List ℕ) → ℕ
 price_of None = 0
 price_of (Some pair) = get_or pair 1 0
+
+-- a number that is 0 without a pair, and with one says its price
+pub told_price : {X : Type 0} (v : X → List ℕ) (o : Option X) {Says : X → Type 0} {n : ℕ} → MatchOption o (n ≡ 0) Says
+    → ((x : X) → Says x → n ≡ get_or (v x) 1 0) → n ≡ price_of (option_map v o)
+told_price v None e k = e
+told_price v (Some x) s k = k x s
 
 pub found_price : (pairs : List ℕ) (p : ℕ) → price_of (find (of_plate p) (by_two pairs)) ≡ price_in pairs p
 unfolding price_in

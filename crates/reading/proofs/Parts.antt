@@ -4,20 +4,20 @@ use mathlib.Core.Path.{◌≡◌, refl, sym, ap, subst, ◌∙◌}
 use mathlib.Core.List.{List, [], ◌∷◌}
 use native.Mathlib.Omega.{arith}
 use lib.ListN.{length}
-use Rattle.std.specs.Prelude.{Option, None, Some, Result, Ok, Err, ok_or, MatchResult}
+use Rattle.std.specs.Prelude.{Result, Ok, Err, MatchResult}
 use Rattle.lists.specs.Lists.{over_at}
 use Rattle.lists.proofs.Pieces.{over_nothing}
 use Rattle.newick.specs.Grammar.{Kind, part, chain, Tree, taxon, group, last, more}
 use Rattle.newick.specs.Layout.{count, rows}
 use Rattle.newick.specs.Pairs.{price_in}
 use Rattle.newick.specs.Parsing.{tokens_of, Outcome, failed, got, with_number, with_length, grouped, part_from, joined, chain_then, chain_from, read_in}
-use Rattle.newick.specs.Inner.{Met}
 use Rattle.newick.specs.declared.token.Token.{Token}
 use Rattle.newick.proofs.Layouts.{count_some}
 use Rattle.newick.proofs.Tokens.{by_first}
 use Rattle.outline.specs.Rules.{most_records}
-use Rattle.reading.specs.Inner.{Begun, Full, Drafted, fields_of, below, record_of, Short, short_failed, short_ended, Stopped, Followed}
+use Rattle.reading.specs.Inner.{left_of, Begun, Full, Moved, Ended, Lengthened, Cut, Drafted, fields_of, below, record_of, Short, short_failed, short_ended}
 use Rattle.reading.specs.Inner.{IfGot, if_failed, if_got, Failed, Unread, unread_bad, unread_many, PartRead, ListRead}
+use Rattle.reading.specs.declared.cursor.Cursor.{Cursor}
 use Rattle.reading.specs.declared.draft.Draft.{Draft}
 use Rattle.reading.specs.declared.draft.Part.{Part}
 use Rattle.reading.specs.declared.flaw.Flaw.{Flaw}
@@ -96,101 +96,120 @@ no_part Token.Semicolon o v f ts = refl
 no_part (Token.Number p) o v f ts = absurd (v p refl)
 no_part Token.Other o v f ts = refl
 
--- an option that has no value is malformed
-pub no_value : {X : Type 0} {o : Option X} {flaw : Flaw} → Err flaw ≡ ok_or o Flaw.Malformed → o ≡ None → flaw ≡ Flaw.Malformed
-no_value {o = None} e z = cc
-no_value {o = Some x} e z = cc
-
 -- a part that fails is short
 fails_short : {o : Outcome part} → o ≡ failed → Short o
 fails_short e = subst Short (sym e) short_failed
 
-module _ (k : ℕ) (text : List ℕ) where
+module _ (from : Cursor) where
   -- the records of a part that begins now would be too many
-  pub part_stops : {from : Draft} {flaw : Flaw} → Full from flaw → k ≡ from.records → Unread part Short k text flaw
-  part_stops f e =
-      subst (Unread part Short k text) (sym f.is) (unread_many (λ n h. always _ (λ t. omega (arith, count_some t, f.full)) _))
+  pub part_stops : {flaw : Flaw} → Full from flaw → Unread part Short from flaw
+  part_stops f = subst (Unread part Short from) (sym f.is) (unread_many (λ n h. always _ (λ t. omega (arith, count_some t, f.full)) _))
 
+-- a record begins
+module _ {from begun : Cursor} {k : ℕ} (b : Begun from begun k) where
   -- nothing is left
-  pub part_nowhere : tokens_of text ≡ [] → Unread part Short k text Flaw.Malformed
+  pub part_nowhere : {flaw : Flaw} → Ended begun flaw → Unread part Short from flaw
   unfolding part_from
-  part_nowhere e = unread_bad (λ n b. fails_short (part_by_lem _ _ _ (λ n _. ap (part_from (read_in n chain)) e) n b))
+  part_nowhere e =
+      let none : tokens_of (left_of from) ≡ [] = ap tokens_of (sym b.left_stays) ∙ e.none in
+      subst (Unread part Short from) (sym e.is)
+      (unread_bad (λ n b. fails_short (part_by_lem _ _ _ (λ n _. ap (part_from (read_in n chain)) none) n b)))
 
-  pub part_fails : {rest : List ℕ} {s : Token} → Met text s rest → (s ≡ Token.Open → ⊥) → ((q : ℕ) → s ≡ Token.Number q → ⊥)
-      → Unread part Short k text Flaw.Malformed
-  part_fails {rest} {s} m o v =
-      unread_bad
-      (λ n b. fails_short (part_by_lem _ _ _ (λ n _. ap (part_from (read_in n chain)) m.shows ∙ no_part s o v (read_in n chain) (tokens_of rest)) n b))
+  -- and a token is passed
+  module _ {to : Cursor} {s : Token} (m : Moved begun to s) where
+    begins : (n : ℕ) (t : Token) → s ≡ t
+        → part_from (read_in n chain) (tokens_of (left_of from)) ≡ part_from (read_in n chain) (t ∷ tokens_of (left_of to))
+    begins n t e =
+        ap (part_from (read_in n chain)) (ap tokens_of (sym b.left_stays) ∙ m.met.shows ∙ ap (λ t. t ∷ tokens_of (left_of to)) e)
+
+    pub part_fails : (s ≡ Token.Open → ⊥) → ((q : ℕ) → s ≡ Token.Number q → ⊥) → Unread part Short from Flaw.Malformed
+    part_fails o v =
+        unread_bad
+        (λ n b. fails_short (part_by_lem _ _ _ (λ n _. begins n s refl ∙ no_part s o v (read_in n chain) (tokens_of (left_of to))) n b))
+
+    counts : to.records ≡ from.records + 1
+    counts = m.records_stay ∙ b.counted
+
+    nearer : length (left_of to) < length (left_of from)
+    nearer = omega (arith, ap length b.left_stays, m.met.shorter)
+
+    opens : s ≡ Token.Open → (n : ℕ)
+        → part_from (read_in n chain) (tokens_of (left_of from)) ≡ grouped (read_in n chain (tokens_of (left_of to)))
+    unfolding part_from
+    opens e n = begins n Token.Open e
+
+    pub group_unread : s ≡ Token.Open → {flaw : Flaw} → Unread chain Failed to flaw → Unread part Short from flaw
+    group_unread e (unread_bad g) =
+        unread_bad (λ n b. fails_short (part_by_lem _ _ _ (λ n h. opens e n ∙ ap grouped (g n (omega (arith, nearer)))) n b))
+    group_unread e (unread_many g) =
+        unread_many (part_if _ _ _ (λ n h. rw (opens e n) (group_if _ (λ ms l q. omega (arith, counts)) (g n (omega (arith, nearer))))))
 
 -- a part is read but for its length
-pub record HeadRead (from to : Draft) (text : List ℕ) (first plate : ℕ) (rest : List ℕ) : Type 0 where
+pub record HeadRead (from to : Draft) (first plate : ℕ) : Type 0 where
   pub made : ℕ → Tree part
-  pub reads : (n : ℕ) → 2 * length text ≤ n → part_from (read_in n chain) (tokens_of text) ≡ with_length made (tokens_of rest)
-  pub shorter : length rest < length text
-  pub counted : (l : ℕ) → to.records ≡ from.records + count (made l)
+  pub reads : (n : ℕ) → 2 * length (left_of from.cursor) ≤ n
+      → part_from (read_in n chain) (tokens_of (left_of from.cursor)) ≡ with_length made (tokens_of (left_of to.cursor))
+  pub shorter : length (left_of to.cursor) < length (left_of from.cursor)
+  pub counted : (l : ℕ) → to.cursor.records ≡ from.cursor.records + count (made l)
   pub pairs_stay : to.pairs.now ≡ from.pairs.now
-  pub fields : (l : ℕ) → record { first = first; length = l; plate = plate } ≡ fields_of from.records (made l)
-  pub drafted : (l : ℕ) → to.bytes ≡ over_at (16 * (from.records + 1)) (below from.pairs.now from.records (made l)) from.bytes
+  pub fields : (l : ℕ) → record { first = first; length = l; plate = plate } ≡ fields_of from.cursor.records (made l)
+  pub drafted : (l : ℕ) → to.bytes ≡ over_at (16 * (from.cursor.records + 1)) (below from.pairs.now from.cursor.records (made l)) from.bytes
 
-module _ {from mid : Draft} {k : ℕ} (b : Begun from mid k) {text rest : List ℕ} {s : Token} (m : Met text s rest) where
+-- a draft whose place has moved
+abbrev moved_to : Draft → Cursor → Draft
+moved_to d c = record { cursor = c; pairs = d.pairs; bytes = d.bytes }
+
+module _ (from : Draft) {begun to : Cursor} {k : ℕ} {s : Token} (b : Begun from.cursor begun k) (m : Moved begun to s) where
   -- a plate number
-  pub head_taxon : (p : ℕ) → s ≡ Token.Number p → HeadRead from mid text 0 p rest
+  pub head_taxon : (q : ℕ) → s ≡ Token.Number q → HeadRead from (moved_to from to) 0 q
   unfolding part_from
-  head_taxon p e =
+  head_taxon q e =
       record {
-        made = taxon p;
-        reads = λ n h. ap (part_from (read_in n chain)) (m.shows ∙ ap (λ t. t ∷ tokens_of rest) e);
-        shorter = m.shorter;
-        counted = λ l. b.counted;
-        pairs_stay = b.pairs_stay;
+        made = taxon q;
+        reads = λ n h. begins b m n (Token.Number q) e;
+        shorter = nearer b m;
+        counted = λ l. counts b m;
+        pairs_stay = refl;
         fields = λ l. refl;
-        drafted = λ l. b.bytes_stay ∙ sym (over_nothing (16 * (from.records + 1)) from.bytes);
+        drafted = λ l. sym (over_nothing (16 * (from.cursor.records + 1)) from.bytes);
       }
 
   -- an opening bracket, and the list after it
-  module _ (e : s ≡ Token.Open) where
-    opens : (n : ℕ) → part_from (read_in n chain) (tokens_of text) ≡ grouped (read_in n chain (tokens_of rest))
-    unfolding part_from
-    opens n = ap (part_from (read_in n chain)) (m.shows ∙ ap (λ t. t ∷ tokens_of rest) e)
-
-    pub group_unread : {flaw : Flaw} → Unread chain Failed mid.records rest flaw → Unread part Short from.records text flaw
-    group_unread (unread_bad g) =
-        unread_bad (λ n b. fails_short (part_by_lem _ _ _ (λ n h. opens n ∙ ap grouped (g n (omega (arith, m.shorter)))) n b))
-    group_unread (unread_many g) =
-        unread_many (part_if _ _ _ (λ n h. rw (opens n) (group_if _ (λ ms l q. omega (arith, b.counted)) (g n (omega (arith, m.shorter))))))
-
-    pub head_group : {to : Draft} {past : List ℕ} → ListRead mid to rest past → HeadRead from to text (k + 2) 0 past
-    head_group {to} {past} l =
-        record {
-          made = group l.members;
-          reads = λ n h. opens n ∙ ap grouped (l.read.reads n (omega (arith, m.shorter)));
-          shorter = omega (arith, m.shorter, l.shorter);
-          counted = λ _. omega (arith, l.read.counted, b.counted);
-          pairs_stay = l.read.pairs_stay ∙ b.pairs_stay;
-          fields = λ j. ap (λ i. record { first = i + 2; length = j; plate = 0 }) b.before_is;
-          drafted = λ _. let up : mid.records + 1 ≡ from.records + 2 = omega (arith, b.counted) in l.drafted ∙ rw (up, b.counted, b.pairs_stay, b.bytes_stay);
-        }
+  pub head_group : s ≡ Token.Open → {end : Draft} → ListRead (moved_to from to) end → HeadRead from end (k + 2) 0
+  head_group e l =
+      let near = nearer b m in
+      let count = counts b m in
+      record {
+        made = group l.members;
+        reads = λ n h. opens b m e n ∙ ap grouped (l.read.reads n (omega (arith, near)));
+        shorter = omega (arith, near, l.read.shorter);
+        counted = λ _. omega (arith, l.read.counted, count);
+        pairs_stay = l.read.pairs_stay;
+        fields = λ j. ap (λ i. record { first = i + 2; length = j; plate = 0 }) b.before_is;
+        drafted = λ _. let up : to.records + 1 ≡ from.cursor.records + 2 = omega (arith, count) in l.drafted ∙ rw (up, count);
+      }
 
 -- and its length
-module _ {from to : Draft} {text rest : List ℕ} {first plate : ℕ} (h : HeadRead from to text first plate rest) where
-  pub part_unfinished : Stopped rest → Unread part Short from.records text Flaw.Malformed
-  part_unfinished g = unread_bad (λ n b. short n (g h.made) b)
+module _ {from mid : Draft} {first plate : ℕ} (h : HeadRead from mid first plate) where
+  pub part_unfinished : {flaw : Flaw} → Cut mid.cursor flaw → Unread part Short from.cursor flaw
+  part_unfinished g = subst (Unread part Short from.cursor) (sym g.is) (unread_bad (λ n b. short n (g.stopped h.made) b))
     where
-      short : (n : ℕ) → Short (with_length h.made (tokens_of rest)) → 2 * length text < n → Short (read_in n part (tokens_of text))
+      short : (n : ℕ) → Short (with_length h.made (tokens_of (left_of mid.cursor))) → 2 * length (left_of from.cursor) < n
+          → Short (read_in n part (tokens_of (left_of from.cursor)))
       short n s b = subst Short (sym (part_by_lem _ _ _ h.reads n b)) s
 
-  pub part_finished : {l : ℕ} {token : Token} {past : List ℕ} → Followed rest l token past
-      → PartRead from to text (record { first = first; length = l; plate = plate }) token past
+  pub part_finished : {l : ℕ} {token : Token} {to : Cursor} → Lengthened mid.cursor to l token
+      → PartRead from (moved_to mid to) (record { first = first; length = l; plate = plate }) token
   part_finished {l} g =
       record {
         tree = h.made l;
         read =
             record {
-              reads = part_by_lem _ _ _ (λ n b. h.reads n b ∙ g.reads h.made);
-              counted = h.counted l;
+              reads = part_by_lem _ _ _ (λ n b. h.reads n b ∙ g.followed.reads h.made);
+              shorter = omega (arith, h.shorter, g.followed.shorter);
+              counted = g.records_stay ∙ h.counted l;
               pairs_stay = h.pairs_stay;
             };
-        shorter = omega (arith, h.shorter, g.shorter);
         fields = h.fields l;
         drafted = h.drafted l;
       }
@@ -213,90 +232,109 @@ unfolding chain_then
 chain_short f short_failed = refl
 chain_short f short_ended = refl
 
-pub list_unread : {k : ℕ} {text : List ℕ} {flaw : Flaw} → Unread part Short k text flaw → Unread chain Failed k text flaw
+pub list_unread : {from : Cursor} {flaw : Flaw} → Unread part Short from flaw → Unread chain Failed from flaw
 list_unread (unread_bad g) = unread_bad (list_by _ _ _ (λ n h. chain_short (read_in n chain) (g n (omega arith))))
 list_unread (unread_many g) =
     unread_many (list_if _ _ _ (λ n h. chain_if _ (read_in n chain) (λ t q. omega arith) (λ t ms q. omega arith) (g n (omega arith))))
 
-module _ {from mid : Draft} {text rest : List ℕ} {p : Part} {token : Token} (o : PartRead from mid text p token rest) where
+module _ {from mid : Draft} {p : Part} {token : Token} (o : PartRead from mid p token) where
   abbrev t : Tree part
   t = o.tree
 
-  few : from.records + count t ≤ most_records
-  few = omega (arith, o.read.counted, mid.few)
+  few : from.cursor.records + count t ≤ most_records
+  few = omega (arith, o.read.counted, mid.cursor.few)
 
-  pub own_room : from.records < most_records
+  pub own_room : from.cursor.records < most_records
   own_room = omega (arith, few, count_some t)
 
   -- the member is read, and the token that follows it decides
-  member : (n : ℕ) → 2 * length text < n
-      → chain_from (read_in n chain) (read_in n part (tokens_of text)) ≡ chain_then (read_in n chain) t (token ∷ tokens_of rest)
+  followed_by : (s : Token) → token ≡ s → (n : ℕ) → 2 * length (left_of from.cursor) < n
+      → chain_from (read_in n chain) (read_in n part (tokens_of (left_of from.cursor)))
+      ≡ chain_then (read_in n chain) t (s ∷ tokens_of (left_of mid.cursor))
   unfolding chain_then
-  member n h = ap (chain_from (read_in n chain)) (o.read.reads n h)
+  followed_by s e n h =
+      ap (chain_from (read_in n chain)) (o.read.reads n h)
+      ∙ ap (λ u. chain_then (read_in n chain) t (u ∷ tokens_of (left_of mid.cursor))) e
 
-  pub list_fails : (token ≡ Token.Comma → ⊥) → (token ≡ Token.Close → ⊥) → Unread chain Failed from.records text Flaw.Malformed
-  list_fails a k = unread_bad (list_by _ _ _ (λ n h. member n (omega arith) ∙ no_next token a k (read_in n chain) t (tokens_of rest)))
-
-  followed_by : (s : Token) → token ≡ s → (n : ℕ) → 2 * length text < n
-      → chain_from (read_in n chain) (read_in n part (tokens_of text)) ≡ chain_then (read_in n chain) t (s ∷ tokens_of rest)
-  followed_by s e n h = member n h ∙ ap (λ u. chain_then (read_in n chain) t (u ∷ tokens_of rest)) e
+  pub list_fails : (token ≡ Token.Comma → ⊥) → (token ≡ Token.Close → ⊥) → Unread chain Failed from.cursor Flaw.Malformed
+  list_fails a k =
+      unread_bad
+      (list_by _ _ _ (λ n h. followed_by token refl n (omega arith) ∙ no_next token a k (read_in n chain) t (tokens_of (left_of mid.cursor))))
 
   -- the member's records are drafted
-  module _ {next : ℕ} {to : Draft} (long : length from.bytes ≡ 16 * most_records) (d : Drafted from.records next p mid to) where
-    own : to.bytes ≡ over_at (16 * from.records) (rows (price_in from.pairs.now) t (from.records + 1) next) from.bytes
+  module _ {next : ℕ} {to : Draft} (long : length from.bytes ≡ 16 * most_records) (d : Drafted from.cursor.records next p mid to) where
+    counts_on : to.cursor.records ≡ from.cursor.records + count t
+    counts_on = ap (λ (c : Cursor). c.records) d.cursor_stays ∙ o.read.counted
+
+    to_left : left_of mid.cursor ≡ left_of to.cursor
+    to_left = sym (ap left_of d.cursor_stays)
+
+    less : length (left_of to.cursor) < length (left_of from.cursor)
+    less = omega (arith, o.read.shorter, ap length to_left)
+
+    pairs_on : to.pairs.now ≡ from.pairs.now
+    pairs_on = d.pairs_stay ∙ o.read.pairs_stay
+
+    goes_by : (s : Token) → token ≡ s → (n : ℕ) → 2 * length (left_of from.cursor) < n
+        → chain_from (read_in n chain) (read_in n part (tokens_of (left_of from.cursor)))
+        ≡ chain_then (read_in n chain) t (s ∷ tokens_of (left_of to.cursor))
+    goes_by s e n h = followed_by s e n h ∙ ap (λ left. chain_then (read_in n chain) t (s ∷ tokens_of left)) to_left
+
+    own : to.bytes ≡ over_at (16 * from.cursor.records) (rows (price_in from.pairs.now) t (from.cursor.records + 1) next) from.bytes
     own =
-        d.written ∙ ap (λ pairs. over_at (16 * from.records) (record_of pairs next p) mid.bytes) o.read.pairs_stay
-        ∙ own_drafted from.pairs.now from.records next from.bytes t few long o.fields o.drafted
+        d.written ∙ ap (λ pairs. over_at (16 * from.cursor.records) (record_of pairs next p) mid.bytes) o.read.pairs_stay
+        ∙ own_drafted from.pairs.now from.cursor.records next from.bytes t few long o.fields o.drafted
 
     -- the closing bracket
-    pub list_ends : token ≡ Token.Close → next ≡ 0 → ListRead from to text rest
+    pub list_ends : token ≡ Token.Close → next ≡ 0 → ListRead from to
     unfolding chain_then
     list_ends e z =
         record {
           members = last t;
           read =
               record {
-                reads = list_by _ _ _ (λ n h. followed_by Token.Close e n (omega arith));
-                counted = d.records_stay ∙ o.read.counted;
-                pairs_stay = d.pairs_stay ∙ o.read.pairs_stay;
+                reads = list_by _ _ _ (λ n h. goes_by Token.Close e n (omega arith));
+                shorter = less;
+                counted = counts_on;
+                pairs_stay = pairs_on;
               };
-          shorter = o.shorter;
-          drafted = last_drafted (price_in from.pairs.now) from.records from.bytes t (rw z at own);
+          drafted = last_drafted (price_in from.pairs.now) from.cursor.records from.bytes t (rw z at own);
         }
 
     -- a comma, and the rest of the list
-    module _ (e : token ≡ Token.Comma) (f : next ≡ mid.records + 1) where
-      goes : (n : ℕ) → 2 * length text < n
-          → chain_from (read_in n chain) (read_in n part (tokens_of text)) ≡ joined t (read_in n chain (tokens_of rest))
+    module _ (e : token ≡ Token.Comma) (f : next ≡ mid.cursor.records + 1) where
+      goes : (n : ℕ) → 2 * length (left_of from.cursor) < n
+          → chain_from (read_in n chain) (read_in n part (tokens_of (left_of from.cursor)))
+          ≡ joined t (read_in n chain (tokens_of (left_of to.cursor)))
       unfolding chain_then
-      goes n h = followed_by Token.Comma e n h
+      goes n h = goes_by Token.Comma e n h
 
-      rest_unread : {flaw : Flaw} → Unread chain Failed to.records rest flaw → Unread chain Failed from.records text flaw
-      rest_unread (unread_bad g) = unread_bad (list_by _ _ _ (λ n h. goes n (omega arith) ∙ ap (joined t) (g n (omega (arith, o.shorter)))))
+      rest_unread : {flaw : Flaw} → Unread chain Failed to.cursor flaw → Unread chain Failed from.cursor flaw
+      rest_unread (unread_bad g) = unread_bad (list_by _ _ _ (λ n h. goes n (omega arith) ∙ ap (joined t) (g n (omega (arith, less)))))
       rest_unread (unread_many g) =
           unread_many
           (list_if _ _ _
-          (λ n h. rw (goes n (omega arith)) (joined_if _ t (λ ms q. omega (arith, d.records_stay, o.read.counted)) (g n (omega (arith, o.shorter))))))
+          (λ n h. rw (goes n (omega arith)) (joined_if _ t (λ ms q. omega (arith, counts_on)) (g n (omega (arith, less))))))
 
-      rest_read : {end : List ℕ} {after : Draft} → ListRead to after rest end → ListRead from after text end
-      rest_read {end} {after} l =
+      rest_read : {after : Draft} → ListRead to after → ListRead from after
+      rest_read {after} l =
           record {
             members = more t l.members;
             read =
                 record {
-                  reads = list_by _ _ _ (λ n h. goes n (omega arith) ∙ ap (joined t) (l.read.reads n (omega (arith, o.shorter))));
-                  counted = omega (arith, d.records_stay, o.read.counted, l.read.counted);
-                  pairs_stay = l.read.pairs_stay ∙ d.pairs_stay ∙ o.read.pairs_stay;
+                  reads = list_by _ _ _ (λ n h. goes n (omega arith) ∙ ap (joined t) (l.read.reads n (omega (arith, less))));
+                  shorter = omega (arith, less, l.read.shorter);
+                  counted = omega (arith, counts_on, l.read.counted);
+                  pairs_stay = l.read.pairs_stay ∙ pairs_on;
                 };
-            shorter = omega (arith, o.shorter, l.shorter);
             drafted =
-                list_drafted from.pairs.now from.records mid.records from.bytes t l.members few long o.read.counted
-                (own ∙ ap (λ j. over_at (16 * from.records) (rows (price_in from.pairs.now) t (from.records + 1) j) from.bytes) f)
-                (l.drafted ∙ rw (d.records_stay, d.pairs_stay, o.read.pairs_stay));
+                list_drafted from.pairs.now from.cursor.records to.cursor.records from.bytes t l.members few long counts_on
+                (own ∙ ap (λ j. over_at (16 * from.cursor.records) (rows (price_in from.pairs.now) t (from.cursor.records + 1) j) from.bytes)
+                (f ∙ ap (λ (c : Cursor). c.records + 1) (sym d.cursor_stays)))
+                (l.drafted ∙ rw pairs_on);
           }
 
-      pub list_goes : {X : Type 0} (r : Result X Flaw) (end : X → List ℕ) (after : Draft)
-          → MatchResult r (λ x. ListRead to after rest (end x)) (Unread chain Failed to.records rest)
-          → MatchResult r (λ x. ListRead from after text (end x)) (Unread chain Failed from.records text)
-      list_goes (Ok x) end after l = rest_read l
-      list_goes (Err flaw) end after g = rest_unread g
+      pub list_goes : {X : Type 0} (r : Result X Flaw) (after : Draft) → MatchResult r (λ _. ListRead to after) (Unread chain Failed to.cursor)
+          → MatchResult r (λ _. ListRead from after) (Unread chain Failed from.cursor)
+      list_goes (Ok x) after l = rest_read l
+      list_goes (Err flaw) after g = rest_unread g

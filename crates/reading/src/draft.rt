@@ -1,11 +1,8 @@
 // The records of a text's tree, as they are drafted.
-ghost use Rattle.std.specs.Prelude.{◌≤◌};
-ghost use Rattle.outline.specs.Rules.{most_records};
-
-use super::flaw::Flaw;
+use super::cursor::Cursor;
 use super::pairs::price_in;
 use outline::limits::MOST_RECORDS;
-use records::put_record;
+use records::Record;
 use text::Pen;
 
 // A draft has room for 127 records.
@@ -19,40 +16,33 @@ pub struct Part {
     pub plate: u32,
 }
 
-// The prices beside the text, how many records have begun, and what is written of them.
+// The place of the readers in the text, the prices beside it, and what is written of the records that have begun.
 #[derive(Drop)]
 pub struct Draft<'a> {
+    pub cursor: Cursor<'a>,
     pub pairs: &'a [u32],
-    pub records: usize,
     pub bytes: [u8; ROOM],
-    ghost few: { records ≤ most_records },
 }
 
 impl<'a> Draft<'a> {
-    ghost use Rattle.std.specs.Prelude.{◌≡◌, ◌<◌, MatchResult};
-    ghost use Rattle.reading.specs.Inner.{price_for, Fresh, Begun, Full, Drafted};
+    ghost use Rattle.std.specs.Prelude.{◌≡◌, ◌<◌};
+    ghost use Rattle.outline.specs.Rules.{most_records};
+    ghost use Rattle.reading.specs.Inner.{price_for, Fresh, Drafted};
 
-    // Nothing is drafted.
-    pub fn new(pairs: &'a [u32]) -> Draft<'a>
-        ensures { Fresh pairs.now result }
+    // At the beginning of a text nothing is drafted.
+    pub fn new(text: &'a [u8], pairs: &'a [u32]) -> Draft<'a>
+        ensures { Fresh text.now pairs.now result }
     {
-        Draft {
-            pairs,
+        let cursor = Cursor {
+            text,
+            at: 0,
             records: 0,
+        };
+        Draft {
+            cursor,
+            pairs,
             bytes: [0; ROOM],
         }
-    }
-
-    // Counts a record that begins, and gives how many have begun before it.
-    pub fn begin(&mut self) -> Result<usize, Flaw>
-        ensures { MatchResult result (Begun self.old self.new) (Full self.old) }
-    {
-        let before = self.records;
-        if before == MOST_RECORDS {
-            return Err(Flaw::TooMany);
-        }
-        self.records = before + 1;
-        Ok(before)
     }
 
     // The price of a record: a group has none.
@@ -75,6 +65,13 @@ impl<'a> Draft<'a> {
             buffer: &mut self.bytes,
             at: 16 * k,
         };
-        put_record(&mut pen, next, part.first, part.length, price, part.plate);
+        let record = Record {
+            next,
+            first: part.first,
+            branch: part.length,
+            price,
+            plate: part.plate,
+        };
+        record.put(&mut pen);
     }
 }

@@ -3,8 +3,10 @@
 #![tactic(auto)]
 
 mod answer;
+mod cursor;
 mod draft;
 mod flaw;
+mod length;
 mod pairs;
 mod part;
 mod place;

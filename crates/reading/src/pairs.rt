@@ -21,10 +21,10 @@ fn by_two(pairs: &[u32]) -> &[[u32; 2]]
 pub fn price_in(pairs: &[u32], plate: u32) -> u32
     ensures { result ≡ price_in pairs.now plate }
 {
-    match by_two(pairs).iter().find(|pair| pair[0] == plate) {
-        Some(pair) => pair[1],
-        None => 0,
-    }
+    by_two(pairs)
+        .iter()
+        .find(|pair| pair[0] == plate)
+        .map_or(0, |pair| pair[1])
 }
 
 // How many pairs a plate has.
@@ -43,10 +43,7 @@ fn is_unpaired(o: &[u8], pairs: &[u32], r: usize) -> bool
     requires { IsRecord o.now r }
     ensures { result ≡ unpaired o.now pairs.now r }
 {
-    if is_taxon(o, r) {
-        return pairs_of(pairs, plate_of(o, r)) != 1;
-    }
-    false
+    is_taxon(o, r) && pairs_of(pairs, plate_of(o, r)) != 1
 }
 
 // Whether a taxon is without exactly one pair.

@@ -2,7 +2,7 @@
 // no more room than another, and every token is taken once.
 ghost use Rattle.std.specs.Prelude.{◌+◌, ◌<◌, ◌^◌, length};
 
-use super::part::follow;
+use super::length::follow;
 use newick::token::{Token, first_token};
 
 // A place after a part with its length: the token that follows, what is left of the text after it, and how many lists are open.

@@ -15,12 +15,12 @@ use refusals::Refusal;
 const MOST_BYTES: usize = 16384;
 
 // Drafts the records of a text's tree.
-fn draft_tree<'a>(text: &[u8], pairs: &'a [u32]) -> Result<Draft<'a>, Flaw>
+fn draft_tree<'a>(text: &'a [u8], pairs: &'a [u32]) -> Result<Draft<'a>, Flaw>
     ensures { MatchResult result (TreeDrafted pairs.now text.now) (NotDrafted text.now) }
 {
-    let mut draft = Draft::new(pairs);
-    let (part, token, rest) = draft.read_part(text)?;
-    if !ends(token, rest) {
+    let mut draft = Draft::new(text, pairs);
+    let (part, token) = draft.read_part()?;
+    if !ends(token, draft.cursor.left()) {
         return Err(Flaw::Malformed);
     }
     draft.draft_record(0, 0, part);
@@ -60,7 +60,7 @@ fn read_short(text: &[u8], pairs: &[u32], outline: &mut [u8]) -> Result<Figures,
             Err(Refusal::BadText)
         }
         Ok(draft) => {
-            let end = 16 * draft.records;
+            let end = 16 * draft.cursor.records;
             place(&draft.bytes[..end], pairs, outline)
         }
     }

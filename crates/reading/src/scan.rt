@@ -31,8 +31,5 @@ fn past_part(text: &[u8]) -> Option<Place<'_>>
 pub fn is_tree(text: &[u8]) -> bool
     ensures { result ≡ is_tree (grown text.now) }
 {
-    match past_part(text) {
-        Some(place) => ends(place.token, place.rest),
-        None => false,
-    }
+    past_part(text).is_some_and(|place| ends(place.token, place.rest))
 }

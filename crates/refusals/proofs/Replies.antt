@@ -1,7 +1,7 @@
 -- What a call's reply says of its ruling, and the mission's first demand of it.
 use Rattle.std.specs.Prelude.{if◌then◌else◌, Result, Ok, Err}
 use Prim.Native.Nat.{ℕ, ◌≤◌}
-use mathlib.Core.Path.{◌≡◌, refl, sym, ap, ◌∙◌}
+use mathlib.Core.Path.{◌≡◌, refl, sym, ap, subst, ◌∙◌}
 use mathlib.Core.Bool.{Bool, true, false}
 use mathlib.Core.List.{List}
 use native.Mathlib.Omega.{arith}
@@ -77,3 +77,7 @@ module _ {Figures : Type 0} (none : Figures) where
   answer_determined (Ok f) (Err e) h = absurd (granted_apart f e h)
   answer_determined (Err d) (Ok g) h = absurd (granted_apart g d (sym h))
   answer_determined (Err d) (Err e) h = ap Err (refusal_determined d e (ap ruling_of h))
+
+-- a reply has the place of the reply that it is
+pub placed_by : {Figures : Type 0} {r s : Reply Figures} {most : ℕ} → r ≡ s → s.place ≤ most → r.place ≤ most
+placed_by {most = most} e h = subst (λ (t : Reply _). t.place ≤ most) (sym e) h

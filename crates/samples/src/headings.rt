@@ -1,4 +1,5 @@
-// Outlines whose groups have headings (document 02, §2).
+// Outlines whose groups have headings (document 02, §2). Each is written out, record by record, though some look alike: what differs are
+// their fields, and a function that makes two of them would take these.
 use super::outlines::Sample;
 use outline::fields::{is_taxon, price_of};
 

@@ -1,4 +1,5 @@
-// Outlines, made record by record as document 01 writes them: next, first, length, price, plate.
+// Outlines, made record by record as document 01 writes them: next, first, length, price, plate. One that looks like another is
+// written out too: what differs are its fields, and a function that makes both would take these.
 ghost use Rattle.std.specs.Prelude.{◌≡◌, ◌*◌, ◌≤◌, length};
 
 // At most 129 records, two more than an outline may have. The bytes past them are 0. An array, so that a sample is copied and made
@@ -57,7 +58,8 @@ impl Sample {
         }
     }
 
-    // The same with another record r.
+    // The same with another record r. The bound on r stands in this contract and the next two: callers have plain numbers, so that a
+    // type for a record's number would be made from one, under this bound, at each call.
     pub fn with(mut self, r: usize, fields: [u32; 5]) -> Self
         requires { (1 ≤ r) × (r ≤ 129) }
         ensures { result.len ≡ self.len }

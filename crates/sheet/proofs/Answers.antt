@@ -16,7 +16,7 @@ use Rattle.lists.proofs.Walk.{lowest_none}
 use Rattle.refusals.specs.Refusals.{refusal, row_at}
 use Rattle.refusals.specs.declared.refusal.Refusal.{Refusal}
 use Rattle.refusals.proofs.Tables.{two_ways}
-use Rattle.refusals.proofs.Refusals.{both_pass, row_fails, row_at_fails, refusal_not_zero}
+use Rattle.refusals.proofs.Refusals.{both_pass, row_fails, row_at_fails, refused_not_zero}
 use Rattle.outline.specs.Outline.{size, is_taxon}
 use Rattle.outline.specs.Answer.{checked}
 use Rattle.outline.proofs.WellFormed.{accepted_formed}
@@ -98,5 +98,5 @@ module _ (c : Call) where
   pub refused_answered : (e : Refusal) → refusal e ≡ judged c → Answered c (told (Err e)) c.sheet
   unfolding reply sheet_after
   refused_answered e h =
-      let number : eqb (judged c).number 0 ≡ false = rw (← h) (refusal_not_zero e) in
+      let number = refused_not_zero e h in
       record { told_reply = rw (number, h); sheet_written = rw number }

@@ -8,29 +8,29 @@ use native.Mathlib.Omega.{arith}
 use lib.ListN.{length, get_or}
 use Rattle.lists.specs.Lists.{one, from}
 use Rattle.outline.specs.Outline.{size, records, plate, IsRecord}
-use Rattle.diversity.specs.Diversity.{chosen, cost, chosen_taxa, diversity as diversity_by}
+use Rattle.diversity.specs.Diversity.{chosen, chosen_taxa}
 use Rattle.text.specs.Text.{texts}
 use Rattle.text.proofs.Texts.{texts_ext}
 use Rattle.sheet.specs.Sheet.{row_of, rows_of}
-use Rattle.sheet.specs.Inner.{Listable, Adds, row_in}
+use Rattle.sheet.specs.Inner.{Listable, AddsBoth, row_in}
+use Rattle.sheet.specs.declared.tables.Additions.{Additions}
 use Rattle.sheet.proofs.Sums.{threes}
 
-module _ (o s quarters diversity : List ℕ) where
-  row_length : (r : ℕ) → length (row_in o s quarters diversity r) ≡ 3 * one (chosen s r)
+module _ (o s : List ℕ) (adds : Additions) where
+  row_length : (r : ℕ) → length (row_in o s adds r) ≡ 3 * one (chosen s r)
   row_length r = go (chosen s r)
     where
-      go : (b : Bool) → length (if b then plate o r ∷ get_or quarters (r - 1) 0 ∷ get_or diversity (r - 1) 0 ∷ [] else []) ≡ 3 * one b
+      go : (b : Bool) → length (if b then plate o r ∷ get_or adds.quarters (r - 1) 0 ∷ get_or adds.diversity (r - 1) 0 ∷ [] else []) ≡ 3 * one b
       go true = refl
       go false = refl
 
   -- the rows of all taxa fit where there is room for three numbers each
-  pub rows_fit : {sheet : List ℕ} → Listable o s sheet → length (texts (row_in o s quarters diversity) (from 1 (size o))) ≤ length sheet
+  pub rows_fit : {sheet : List ℕ} → Listable o s sheet → length (texts (row_in o s adds) (from 1 (size o))) ≤ length sheet
   unfolding chosen_taxa records
-  rows_fit l = omega (arith, l.room, threes s (row_in o s quarters diversity) row_length (records o))
+  rows_fit l = omega (arith, l.room, threes s (row_in o s adds) row_length (records o))
 
   -- by tables of what each record adds, they are the rows of the sheet
-  pub rows_in : (way : ℕ) → Adds o (cost o) s quarters → Adds o (diversity_by o way) s diversity
-      → texts (row_in o s quarters diversity) (from 1 (size o)) ≡ rows_of o way s
+  pub rows_in : (way : ℕ) → AddsBoth o way s adds → texts (row_in o s adds) (from 1 (size o)) ≡ rows_of o way s
   unfolding rows_of row_of records
-  rows_in way q d =
-      texts_ext _ _ 1 (size o) (λ r l u. let i : IsRecord o r = record { low = l; high = omega arith } in rw (q.at_place r i, d.at_place r i))
+  rows_in way b =
+      texts_ext _ _ 1 (size o) (λ r l u. let i : IsRecord o r = record { low = l; high = omega arith } in rw (b.quarters_are.at_place r i, b.diversity_are.at_place r i))

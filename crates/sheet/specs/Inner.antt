@@ -5,12 +5,13 @@ use Rattle.lists.specs.Lists.{one, positive}
 use Rattle.outline.specs.Outline.{size, first, plate, IsRecord}
 use Rattle.outline.specs.WellFormed.{WellFormed}
 use Rattle.measures.specs.Measures.{Measurable}
-use Rattle.diversity.specs.Diversity.{chosen, within, elsewhere, chosen_taxa}
+use Rattle.diversity.specs.Diversity.{chosen, within, elsewhere, chosen_taxa, cost, diversity}
 use Rattle.diversity.specs.Behind.{IsSet}
 use Rattle.laws.specs.Forest.{tree}
 use Rattle.text.specs.Written.{LongEnough}
 use Rattle.text.specs.declared.Pen.{Pen}
 use Rattle.sheet.specs.Sheet.{up_to, added}
+use Rattle.sheet.specs.declared.tables.Additions.{Additions}
 use Rattle.outline.specs.Rules.{most_records}
 use Rattle.laws.specs.Measures.{chosen_in}
 
@@ -27,11 +28,6 @@ no_place = most_records
 -- that of record r, if it is chosen
 unfoldable pub place_of : List ℕ → ℕ → ℕ
 place_of s r = if chosen s r then r - 1 else no_place
-
--- r is the number of a mark
-pub record HasMark (s : List ℕ) (r : ℕ) : Type 0 where
-  pub low : 1 ≤ r
-  pub high : r ≤ length s
 
 -- a test of the taxa up to record k holds from place x on: as soon as k is past it, and not before
 pub record Since (x : ℕ) (holds : ℕ → Bool) : Type 0 where
@@ -82,12 +78,17 @@ pub record AtRecord (o s firsts : List ℕ) (r : ℕ) : Type 0 where
 pub record Adds (o : List ℕ) (measure : List ℕ → ℕ) (s table : List ℕ) : Type 0 where
   pub at_place : (r : ℕ) → IsRecord o r → get_or table (r - 1) 0 ≡ added measure s r
 
+-- two tables have what it adds to the quarters and to the diversity
+pub record AddsBoth (o : List ℕ) (way : ℕ) (s : List ℕ) (adds : Additions) : Type 0 where
+  pub quarters_are : Adds o (cost o) s adds.quarters
+  pub diversity_are : Adds o (diversity o way) s adds.diversity
+
 -- ---- the row of a record, if it is chosen, by two tables of what it adds
-abbrev pub row_in : List ℕ → List ℕ → List ℕ → List ℕ → ℕ → List ℕ
-row_in o s quarters diversity r = if chosen s r then plate o r ∷ get_or quarters (r - 1) 0 ∷ get_or diversity (r - 1) 0 ∷ [] else []
+abbrev pub row_in : List ℕ → List ℕ → Additions → ℕ → List ℕ
+row_in o s adds r = if chosen s r then plate o r ∷ get_or adds.quarters (r - 1) 0 ∷ get_or adds.diversity (r - 1) 0 ∷ [] else []
 
 -- a pen has room for it
-pub record RowFits (o s : List ℕ) (r : ℕ) (quarters diversity : List ℕ) (pen : Pen ℕ) : Type 0 where
+pub record RowFits (o s : List ℕ) (r : ℕ) (adds : Additions) (pen : Pen ℕ) : Type 0 where
   pub base : Measurable o s
   pub is_record : IsRecord o r
-  pub room : LongEnough (row_in o s quarters diversity r) pen
+  pub room : LongEnough (row_in o s adds r) pen

@@ -11,13 +11,17 @@ use outline::check;
 use outline::fields::is_taxon;
 use refusals::Refusal;
 
-// Whether the mark of record r is neither 0 nor 1, or 1 at a group.
+// Whether the mark of record r is neither 0 nor 1, or 1 at a group. That each record has a mark is asked here and below: it is a fact of two
+// slices, which a type of either could not tell.
 fn is_bad(o: &[u8], marks: &[u8], r: usize) -> bool
     requires { IsRecord o.now r × (size o.now ≤ length marks.now) }
     ensures { result ≡ bad_mark o.now marks.now r }
 {
-    let mark = marks[r - 1];
-    (1 < mark) | ((mark == 1) & !is_taxon(o, r))
+    match marks[r - 1] {
+        0 => false,
+        1 => !is_taxon(o, r),
+        _ => true,
+    }
 }
 
 // The lowest record with such a mark, if there is one.
@@ -32,10 +36,11 @@ fn bad_mark_at(o: &[u8], marks: &[u8]) -> Option<usize>
 pub fn judge(outline: &[u8], way: u32, marks: &[u8], sheet: &[u32]) -> Result<(), Refusal>
     ensures { told result ≡ judged (call outline.now way marks.now sheet.now) }
 {
-    if (way != 0) & (way != 1) {
+    if way != 0 && way != 1 {
         return Err(Refusal::UnknownWay);
     }
     check(outline)?;
+    // at no record, so with place 0: with a variant for it, or with an `Option`, two refusals would be told by the same two numbers
     if marks.len() < outline.len() / 16 {
         return Err(Refusal::BadMarks(0));
     }

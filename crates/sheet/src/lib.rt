@@ -1,6 +1,7 @@
 // The sheet of a marked set: what each chosen taxon adds to those before it, row after row, and the sums. Nothing is asked of the
-// caller. Outline, way, set and the table of firsts are passed side by side: a struct of them would hold references, and each clause
-// would say `set.entry.marks.now` for `set.now`. The way is the number that C hands over; row 1 answers any that is none.
+// caller. Outline, way, set and the table of firsts are passed side by side: in a struct of references a clause would say
+// `list.now.set.now` for `set.now`. The way is the number that C hands over; row 1 answers any that is none. Nothing is allocated: tables
+// by record number are arrays.
 #![tactic(auto)]
 
 mod answer;

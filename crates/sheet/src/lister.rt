@@ -7,29 +7,20 @@ ghost use Rattle.sheet.specs.Inner.{Listable, row_in, RowFits};
 ghost use Rattle.sheet.specs.Sheet.{rows_of};
 
 use super::answer::Figures;
-use super::firsts::firsts_of;
 use super::judge::judge;
-use super::tables::{diversity_of, quarters_of};
-use measures::measure;
+use super::tables::Additions;
+use measures::{is_chosen, measure};
 use outline::fields::plate_of;
-use outline::limits::NUMBERS;
 use refusals::Refusal;
 use text::Pen;
 
 // Puts the row of record r, if it is chosen.
-fn put_row(
-    o: &[u8],
-    set: &[u8],
-    r: usize,
-    quarters: &[u32; NUMBERS],
-    diversity: &[u32; NUMBERS],
-    pen: &mut Pen<u32>,
-)
-    requires { RowFits o.now set.now r quarters.now diversity.now pen.old }
-    ensures { Put (row_in o.now set.now quarters.now diversity.now r) pen.old pen.new }
+fn put_row(o: &[u8], set: &[u8], r: usize, adds: &Additions, pen: &mut Pen<u32>)
+    requires { RowFits o.now set.now r adds.now pen.old }
+    ensures { Put (row_in o.now set.now adds.now r) pen.old pen.new }
 {
-    if set[r - 1] == 1 {
-        pen.put(&[plate_of(o, r), quarters[r - 1], diversity[r - 1]]);
+    if is_chosen(set, r) {
+        pen.put(&[plate_of(o, r), adds.quarters[r - 1], adds.diversity[r - 1]]);
     }
 }
 
@@ -38,15 +29,13 @@ fn write_rows(o: &[u8], way: u32, set: &[u8], sheet: &mut [u32])
     requires { Listable o.now set.now sheet.old }
     ensures { sheet.new ≡ over (rows_of o.now way set.now) sheet.old }
 {
-    let firsts = firsts_of(o, set);
-    let quarters = quarters_of(o, set, &firsts);
-    let diversity = diversity_of(o, way, set, &firsts);
+    let adds = Additions::of(o, way, set);
     let mut pen = Pen {
         buffer: sheet,
         at: 0,
     };
     for r in 1..=o.len() / 16 {
-        put_row(o, set, r, &quarters, &diversity, &mut pen);
+        put_row(o, set, r, &adds, &mut pen);
     }
 }
 

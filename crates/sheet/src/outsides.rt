@@ -11,10 +11,7 @@ use outline::limits::NUMBERS;
 fn outside_root(way: u32) -> usize
     ensures { result ≡ (if eqb way 0 then 0 else no_place) }
 {
-    if way == 0 {
-        return 0;
-    }
-    NONE
+    if way == 0 { 0 } else { NONE }
 }
 
 // The place of the first taxon outside the chain that begins at each record. One pass from the root on: outside the chain of a record's

@@ -1,5 +1,5 @@
 // A choice's marks, handed on as they are.
-use super::show::list;
+use super::show::Call;
 use choice::choose;
 use samples::outlines::{comb, tree_a, tree_a_with_headings};
 use std::io;
@@ -14,7 +14,7 @@ fn chosen(rt: &(impl Print + AllocGlobal), label: &str, o: &[u8], count: u32) ->
         print!(rt; "{label}, way {way}")?;
         if let Ok(f) = choose(o, count, way, &mut marks, &mut curve, &mut work) {
             print!(rt; ", chosen {} {} {}", f.taxa, f.cost, f.diversity)?;
-            list(rt, o, way, &marks, 200)?;
+            Call::new(o, way, 200, &marks).answer(rt)?;
         }
     }
     Ok(())

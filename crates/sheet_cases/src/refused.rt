@@ -1,11 +1,11 @@
 // The refusals in their order: 1, those of the check, 14, 9; and sheets with just enough numbers.
-use super::show::call;
+use super::show::Call;
 use samples::outlines::{star, tree_a};
 use std::io;
 
 // Tree A with these marks, and a sheet of so many numbers.
 fn tree(rt: &(impl Print + AllocGlobal), way: u32, numbers: usize, marks: &[u8]) -> io::Result<()> {
-    call(rt, "tree A", tree_a().bytes(), way, numbers, marks)
+    Call::new(tree_a().bytes(), way, numbers, marks).case(rt, "tree A")
 }
 
 // Row 1; row 14, too few marks, then the lowest record with a bad one; row 9. Of several rows the first.
@@ -30,7 +30,7 @@ pub fn marks(rt: &(impl Print + AllocGlobal)) -> io::Result<()> {
 
 // An outline with bad marks and no sheet.
 fn outline(rt: &(impl Print + AllocGlobal), label: &str, o: &[u8], way: u32) -> io::Result<()> {
-    call(rt, label, o, way, 0, &[1, 1, 2, 255, 0])
+    Call::new(o, way, 0, &[1, 1, 2, 255, 0]).case(rt, label)
 }
 
 // Row 1 before all others, and the check's rows before 14.

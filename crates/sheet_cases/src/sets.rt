@@ -1,17 +1,17 @@
 // Sets that are listed.
-use super::show::call;
+use super::show::Call;
 use samples::headings::{deep_pair, free_pair, interleaved, two_families};
 use samples::outlines::{one_record, star, tree_a, tree_a_with_headings};
 use std::io;
 
 // Sets of an outline in which records 3, 4 and 5 are the taxa. Marks past those of the records may be anything.
 fn sets(rt: &(impl Print + AllocGlobal), label: &str, o: &[u8]) -> io::Result<()> {
-    call(rt, label, o, 0, 30, &[0, 0, 1, 0, 1])?;
-    call(rt, label, o, 1, 30, &[0, 0, 1, 0, 1, 1, 2, 255])?;
-    call(rt, label, o, 0, 30, &[0, 0, 0, 1, 0])?;
-    call(rt, label, o, 1, 30, &[0, 0, 0, 1, 0])?;
-    call(rt, label, o, 0, 30, &[0, 0, 1, 1, 1])?;
-    call(rt, label, o, 1, 30, &[0, 0, 1, 1, 1])
+    Call::new(o, 0, 30, &[0, 0, 1, 0, 1]).case(rt, label)?;
+    Call::new(o, 1, 30, &[0, 0, 1, 0, 1, 1, 2, 255]).case(rt, label)?;
+    Call::new(o, 0, 30, &[0, 0, 0, 1, 0]).case(rt, label)?;
+    Call::new(o, 1, 30, &[0, 0, 0, 1, 0]).case(rt, label)?;
+    Call::new(o, 0, 30, &[0, 0, 1, 1, 1]).case(rt, label)?;
+    Call::new(o, 1, 30, &[0, 0, 1, 1, 1]).case(rt, label)
 }
 
 // A heading is in the row of the first chosen taxon below it. A lock is no part of the plate, and the set need not hold it. Rows
@@ -27,17 +27,17 @@ fn trees(rt: &(impl Print + AllocGlobal)) -> io::Result<()> {
 fn others(rt: &(impl Print + AllocGlobal)) -> io::Result<()> {
     let two = two_families(3);
     let marks = [0, 0, 0, 1, 0, 1, 0, 1];
-    call(rt, "families", two.bytes(), 1, 30, &marks)?;
+    Call::new(two.bytes(), 1, 30, &marks).case(rt, "families")?;
     let pair = deep_pair(1, 2);
-    call(rt, "deep pair", pair.bytes(), 1, 30, &[0, 0, 1, 1])?;
+    Call::new(pair.bytes(), 1, 30, &[0, 0, 1, 1]).case(rt, "deep pair")?;
     let one = one_record([0, 0, 5, 1, 4294967295]);
-    call(rt, "one taxon", one.bytes(), 1, 30, &[1])?;
+    Call::new(one.bytes(), 1, 30, &[1]).case(rt, "one taxon")?;
     let free = free_pair(3, 0, 1);
-    call(rt, "free taxa", free.bytes(), 0, 30, &[0, 0, 1, 0, 0, 1])?;
+    Call::new(free.bytes(), 0, 30, &[0, 0, 1, 0, 0, 1]).case(rt, "free taxa")?;
     let dear = star(8, 1000000, 65535).headed(65535);
     let marks = [0, 1, 1, 1, 1, 1, 1, 1];
-    call(rt, "star", dear.bytes(), 0, 30, &marks)?;
-    call(rt, "star", dear.bytes(), 1, 30, &marks)
+    Call::new(dear.bytes(), 0, 30, &marks).case(rt, "star")?;
+    Call::new(dear.bytes(), 1, 30, &marks).case(rt, "star")
 }
 
 pub fn all(rt: &(impl Print + AllocGlobal)) -> io::Result<()> {

@@ -25,26 +25,38 @@ pub written_within : {text before after : List ℕ} {next : ℕ} → Written 0 t
 unfolding over over_at
 written_within d = omega (arith, d.next_is, simp length-append at (ap length d.buffer_is))
 
--- nothing is put
+-- nothing is written, and nothing is put
+pub written_nothing : {A : Type 0} (at : ℕ) (buffer : List A) → Written at [] buffer buffer at
+written_nothing at buffer = record { buffer_is = sym (over_nothing at buffer); next_is = omega arith }
+
 pub put_nothing : {A : Type 0} (p : Pen A) → Put [] p p
-put_nothing p = record {
-  written = record { buffer_is = sym (over_nothing p.at p.buffer.now); next_is = omega arith };
-  same_buffer = refl;
-  same_length = refl;
-}
+put_nothing p = record { written = written_nothing p.at p.buffer.now; same_buffer = refl; same_length = refl }
 
 -- one piece after another
+written_then : {A : Type 0} {at m n : ℕ} {s t before mid after : List A} → at ≤ length before → Written at s before mid m → Written m t mid after n
+    → Written at (s ++ t) before after n
+written_then {at = at} {m} {n} {s} {t} {before} h d e = record {
+  buffer_is = e.buffer_is ∙ ap (over_at m t) d.buffer_is ∙ over_both at m s t before h d.next_is;
+  next_is = omega (arith, d.next_is, e.next_is, length-append s t);
+}
+
 pub put_both : {A : Type 0} {p q r : Pen A} {s t : List A} → LongEnough s p → Put s p q → Put t q r → Put (s ++ t) p r
-put_both {p = p} {q} {s = s} {t} h d e = record {
-  written = record {
-    buffer_is =
-        e.written.buffer_is ∙ ap (over_at q.at t) d.written.buffer_is
-        ∙ over_both p.at q.at s t p.buffer.now (omega arith) d.written.next_is;
-    next_is = omega (arith, length-append s t);
-  };
+put_both h d e = record {
+  written = written_then (omega arith) d.written e.written;
   same_buffer = e.same_buffer ∙ d.same_buffer;
   same_length = e.same_length ∙ d.same_length;
 }
+
+-- four pieces, one after another; for any number of them there is `Left`
+pub four_written : {A : Type 0} {at m n k next : ℕ} {s t u v before p q r exit : List A} → at + length (s ++ (t ++ (u ++ v))) ≤ length before
+    → Written at s before p m → Written m t p q n → Written n u q r k → Written k v r exit next → Written at (s ++ (t ++ (u ++ v))) before exit next
+four_written {s = s} {t} {u} {v} h d e f g =
+    let all = simp length-append at h in
+    let first = written_length (omega (arith, all)) d in
+    let second = written_length (omega (arith, all, first, d.next_is)) e in
+    written_then (omega (arith, all)) d
+    (written_then (omega (arith, all, first, d.next_is)) e
+    (written_then (omega (arith, all, first, second, d.next_is, e.next_is)) f g))
 
 -- what a pen put at the beginning of a buffer stands there when the pen is let go
 pub put_over : {A : Type 0} {text end : List A} {p q : Pen A} → Put text p q → p.at ≡ 0 → end ≡ q.buffer.now → end ≡ over text p.buffer.now

@@ -10,7 +10,7 @@ ghost use Rattle.view.specs.View.{buyer_record, buyer_view};
 
 use outline::checker::check_with_room;
 use outline::fields::{branch_of, first_of, next_of, plate_of};
-use records::put_record;
+use records::Record;
 use refusals::Refusal;
 use text::Pen;
 
@@ -19,12 +19,14 @@ fn put_cleared(o: &[u8], r: usize, pen: &mut Pen<u8>)
     requires { RecordFits o.now r pen.old }
     ensures { Put (buyer_record o.now r) pen.old pen.new }
 {
-    let next = next_of(o, r);
-    let first = first_of(o, r);
-    let branch = branch_of(o, r);
-    let price = 0;
-    let plate = plate_of(o, r);
-    put_record(pen, next, first, branch, price, plate);
+    let record = Record {
+        next: next_of(o, r),
+        first: first_of(o, r),
+        branch: branch_of(o, r),
+        price: 0,
+        plate: plate_of(o, r),
+    };
+    record.put(pen);
 }
 
 // Writes every record so, one after the other.

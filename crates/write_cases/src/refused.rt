@@ -1,4 +1,5 @@
-// Refusal 13, and the order of refusals: those of the check, 13, 9.
+// Refusal 13, and the order of refusals: those of the check, 13, 9. A function is the cases of its row, so that two look alike; what
+// they share is `case`, `spoiled` and `write_to`.
 ghost use Rattle.std.specs.Prelude.{◌≤◌};
 
 use super::show::{case, write_to};

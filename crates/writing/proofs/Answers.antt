@@ -1,19 +1,20 @@
 -- What a call of `write` is answered, row by row.
 use Rattle.std.specs.Prelude.{Some, None, Ok, Err}
-use Prim.Native.Nat.{ℕ, ◌+◌, ◌*◌, ◌/◌, ◌≤◌}
+use Prim.Native.Nat.{ℕ, ◌+◌, ◌*◌, ◌/◌, ◌≤◌, ◌<◌}
 use mathlib.Core.Path.{◌≡◌, refl, sym, ap, ◌∙◌}
 use mathlib.Core.Bool.{true, false, ◌||◌}
 use mathlib.Core.List.{List}
 use native.Mathlib.Omega.{arith}
 use lib.Dec.{eqb, ltb}
 use lib.ListN.{length}
-use borrow.Author.Tests.{ltb-false}
+use borrow.Author.Tests.{lt-ltb, le-ltb}
 use Rattle.lists.specs.Lists.{total, lowest, nonzero, over, Bytes}
-use Rattle.lists.proofs.Bools.{both_false}
+use mathlib.Core.Logic.{◌⊎◌, inl, inr}
+use Rattle.std.proofs.lemmas.Bool.{or_right}
 use Rattle.lists.proofs.Walk.{nonzero_none}
 use Rattle.refusals.specs.Refusals.{Ruling, passed, refusal, row}
 use Rattle.refusals.specs.declared.refusal.Refusal.{Refusal}
-use Rattle.refusals.proofs.Refusals.{refusal_not_zero, row_at_found, row_at_passed}
+use Rattle.refusals.proofs.Refusals.{refusal_not_zero, refused_not_zero, row_at_found, row_at_passed}
 use Rattle.outline.specs.WellFormed.{WellFormed}
 use Rattle.outline.specs.Outline.{size, records}
 use Rattle.outline.specs.Answer.{checked}
@@ -32,7 +33,7 @@ module _ (c : Call) (small : Bytes c.outline) where
   refused_by : (e : Refusal) → judged c ≡ refusal e → Answered c (told (Err e)) c.text c.pairs
   unfolding reply text_after pairs_after
   refused_by e h =
-      let off : eqb (judged c).number 0 ≡ false = ap (λ (t : Ruling). eqb t.number 0) h ∙ refusal_not_zero e in
+      let off : eqb (judged c).number 0 ≡ false = refused_not_zero e (sym h) in
       record { told_reply = rw (off, h); text_written = rw off; pairs_written = rw off; outline_bytes = small }
 
   -- the check refuses
@@ -80,25 +81,28 @@ module _ (c : Call) (small : Bytes c.outline) where
           short_is = rw (bytes_are, pairs_are)
 
           -- a buffer is short
-          pub room_refused : (ltb (length c.text) (b + 1) || ltb (length c.pairs) (2 * k)) ≡ true
-              → Answered c (told (Err Refusal.BufferTooShort)) c.text c.pairs
-          room_refused s = refused_by Refusal.BufferTooShort (last_row ∙ ap (row 9) (sym short_is ∙ s))
+          pub room_refused : (length c.text < b + 1) ⊎ (length c.pairs < 2 * k) → Answered c (told (Err Refusal.BufferTooShort)) c.text c.pairs
+          room_refused s = refused_by Refusal.BufferTooShort (last_row ∙ ap (row 9) (sym short_is ∙ either_short s))
+            where
+              either_short : (length c.text < b + 1) ⊎ (length c.pairs < 2 * k) → (ltb (length c.text) (b + 1) || ltb (length c.pairs) (2 * k)) ≡ true
+              either_short (inl h) = rw (lt-ltb (length c.text) (b + 1) h) refl
+              either_short (inr h) = rw (lt-ltb (length c.pairs) (2 * k) h) (or_right (ltb (length c.text) (b + 1)) true refl)
 
           -- or there is room, and all is written
-          module _ (s : (ltb (length c.text) (b + 1) || ltb (length c.pairs) (2 * k)) ≡ false) where
+          module _ (roomy : b + 1 ≤ length c.text) (spare : 2 * k ≤ length c.pairs) where
             pub writable : Writable c.outline c.text c.pairs
-            writable =
-                let roomy = both_false (ltb (length c.text) (b + 1)) (ltb (length c.pairs) (2 * k)) s in
-                record {
-                  accepted = ap (λ (t : Ruling). eqb t.number 0) passes;
-                  text_room = omega (arith, bytes_are, ltb-false (length c.text) (b + 1) roomy.0);
-                  pairs_room = omega (arith, pairs_are, ltb-false (length c.pairs) (2 * k) roomy.1);
-                }
+            writable = record {
+              accepted = ap (λ (t : Ruling). eqb t.number 0) passes;
+              text_room = omega (arith, bytes_are);
+              pairs_room = omega (arith, pairs_are);
+            }
 
             pub all_written : {text pairs : List ℕ} → text ≡ over (outline_text c.outline) c.text → pairs ≡ over (outline_pairs c.outline) c.pairs
                 → Answered c (told (Ok (counts (b + 1) k))) text pairs
             unfolding reply text_after pairs_after
             all_written d f =
-                let none : judged c ≡ passed = last_row ∙ ap (row 9) (sym short_is ∙ s) in
+                let enough : (ltb (length c.text) (b + 1) || ltb (length c.pairs) (2 * k)) ≡ false =
+                rw (le-ltb (length c.text) (b + 1) roomy, le-ltb (length c.pairs) (2 * k) spare) in
+                let none : judged c ≡ passed = last_row ∙ ap (row 9) (sym short_is ∙ enough) in
                 let half : k ≡ length (outline_pairs c.outline) / 2 = omega (arith, pairs_are) in
                 record { told_reply = rw (none, bytes_are, half); text_written = rw none d; pairs_written = rw none f; outline_bytes = small }

@@ -1,7 +1,7 @@
 -- How many bytes a text has: those that are the records' own, together.
 use Rattle.std.specs.Prelude.{if◌then◌else◌}
-use Prim.Native.Nat.{ℕ, ◌+◌, ◌*◌, ◌/◌, ◌%◌, ◌≤◌, ◌<◌}
-use mathlib.Core.Path.{◌≡◌, refl, sym, ap}
+use Prim.Native.Nat.{ℕ, zero, suc, ◌+◌, ◌*◌, ◌^◌, ◌≤◌, ◌<◌}
+use mathlib.Core.Path.{◌≡◌, refl, ap, ◌∙◌}
 use mathlib.Core.Bool.{Bool, true, false, not}
 use mathlib.Core.List.{List, [], ◌∷◌}
 use native.Mathlib.Omega.{arith}
@@ -9,13 +9,23 @@ use lib.Dec.{eqb}
 use lib.ListN.{length, length-append}
 use mir.Val.{bool_byte}
 use borrow.Author.Tests.{ne_eqb}
-use Rattle.lists.specs.Lists.{one, total}
+use Rattle.lists.specs.Lists.{one, from, total}
 use Rattle.outline.specs.WellFormed.{Linked}
 use Rattle.outline.specs.Outline.{size, records, next, branch, plate, is_taxon, IsRecord}
 use Rattle.laws.proofs.Chains.{total_root, clade_size}
 use Rattle.laws.proofs.Sums.{total_append}
-use Rattle.text.specs.Text.{decimal}
-use Rattle.text.proofs.Decimal.{decimal_one, decimal_more, decimal_most}
+use Rattle.text.specs.Text.{decimal, digits_in}
+use Rattle.text.proofs.Decimal.{decimal_is, decimal_most}
+use Rattle.std.specs.Fmt.{decimal as std_decimal}
+use Rattle.std.proofs.lemmas.List.Sums.{sum_by_from}
+use Rattle.std.specs.List.{sum_by, range_with_len}
+use Rattle.std.specs.Prelude.{Option, Some, None, IfNone, IfSome, unwrap_or}
+use mathlib.Core.Logic.{⊎_elim}
+use Rattle.std.proofs.lemmas.Bool.{cases_lt}
+use Rattle.std.proofs.lemmas.Fmt.{decimal_is_IsNumeral, length-decimal-le}
+use Rattle.std.proofs.lemmas.Int.Digits.{digits_value-lt}
+use native.Mathlib.Nat.{pow-succ'}
+use Rattle.std.proofs.Math.Nat.{pow-le-pow_right}
 use Rattle.newick.specs.Grammar.{Kind, part, chain, Tree, most_bytes}
 use Rattle.writing.specs.Text.{spelling, text_of, outline_text}
 use Rattle.newick.specs.Trees.{tree_of}
@@ -41,14 +51,30 @@ own_length o r true e = rw e (omega (arith, length-append (decimal (branch o r))
 own_length o r false e = rw e (omega (arith, length-append (decimal (branch o r)) (comma (next o r))))
 
 -- ---- as the code counts them
-pub digits_one : (n : ℕ) → n < 10 → 1 ≡ length (decimal n)
-digits_one n h = sym (ap length (decimal_one n h))
+digits_counted : (n k : ℕ) → n < 4294967296 → 10 ^ k ≤ n → n < 10 * 10 ^ k → k + 1 ≡ length (decimal n)
+digits_counted n k small low high =
+    let wide : n < 2 ^ 64 = omega arith in
+    let most : n < 10 ^ suc k = rw (pow-succ' 10 k) high in
+    let few : length (std_decimal n) ≤ suc k = length-decimal-le (suc k) n (omega arith) most wide in
+    let told = decimal_is_IsNumeral n wide in
+    let value : n < 10 ^ length (std_decimal n) = rw told.1 at (digits_value-lt 10 (std_decimal n) told.0.1) in
+    rw (decimal_is n wide) (⊎_elim (λ (h : k < length (std_decimal n)). omega arith)
+    (λ (h : length (std_decimal n) ≤ k). absurd (omega (arith, value, low, pow-le-pow_right {n = 10} (omega arith) h))) (cases_lt k (length (std_decimal n))))
 
-pub digits_more : (n : ℕ) {k : ℕ} → 10 ≤ n → k ≡ length (decimal (n / 10)) → k + 1 ≡ length (decimal n)
-digits_more n h e = omega (arith, ap length (decimal_more n h), length-append (decimal (n / 10)) ((48 + n % 10) ∷ []))
+pub digits_told : (n : ℕ) (log : Option ℕ) → n < 4294967296 → IfNone log (n ≡ 0) → IfSome log (λ k. 10 ^ k ≤ n) → IfSome log (λ k. n < 10 * 10 ^ k)
+    → unwrap_or log 0 + 1 ≡ length (decimal n)
+unfolding decimal digits_in
+digits_told n None small none low high = rw none refl
+digits_told n (Some k) small none low high = digits_counted n k small low high
 
 pub digits_few : (n : ℕ) → n < 4294967296 → length (decimal n) ≤ 10
 digits_few n h = decimal_most 9 n (omega arith)
+
+-- a sum over a range is one over the numbers from its first on
+pub summed : (f : ℕ → ℕ) (k n : ℕ) → sum_by f (range_with_len k n) ≡ total f (from k n)
+unfolding total from
+summed f k zero = refl
+summed f k (suc n) = sum_by_from f (0 + f k) (range_with_len (k + 1) n) ∙ omega (arith, summed f (k + 1) n)
 
 comma_counted : (next : ℕ) → bool_byte (not (eqb next 0)) ≡ length (comma next)
 comma_counted next = go (eqb next 0)

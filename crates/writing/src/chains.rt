@@ -35,7 +35,8 @@ fn put_tail(o: &[u8], r: usize, pen: &mut Pen<u8>)
     }
 }
 
-// The text of the chain that a link begins: nothing for 0.
+// The text of the chain that a link begins: nothing for 0. The pairs have a walk of their own, `put_pairs`. One for both would be handed
+// what to put before and after the members; that has no plainer contract, as it would speak of two functions in place of `chain_text`.
 pub fn put_chain(o: &[u8], r: usize, pen: &mut Pen<u8>)
     requires along { Along o.now r }
     requires long_enough { LongEnough (chain_text o.now r) pen.old }

@@ -1,5 +1,5 @@
 // Writing an outline as a text in Newick form and its prices beside it. Layout software calls `write`, which asks nothing of the
-// caller. Outline and record go side by side, as in outline/src/fields.rt.
+// caller; outline and buffers are C's, one by one. Outline and record go side by side, as in outline/src/fields.rt.
 #![tactic(auto)]
 
 mod answer;

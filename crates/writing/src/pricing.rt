@@ -18,7 +18,7 @@ fn put_pair(o: &[u8], r: usize, pen: &mut Pen<u32>)
     }
 }
 
-// The pairs of the chain that a link begins: none for 0.
+// The pairs of the chain that a link begins: none for 0. A walk beside that of `put_chain`, which says why.
 pub fn put_pairs(o: &[u8], r: usize, pen: &mut Pen<u32>)
     requires along { Along o.now r }
     requires long_enough { LongEnough (chain_pairs o.now r) pen.old }

@@ -8,16 +8,12 @@ ghost use Rattle.outline.specs.Rules.{most_records};
 
 use outline::fields::{branch_of, is_taxon, next_of, plate_of};
 
-// How many digits a number has, by recursion as `decimal` is defined.
+// How many digits a number has: one more than its logarithm tells, and one for 0.
 fn digits_of(n: u32) -> usize
     ensures value { result ≡ length (decimal n) }
     ensures upper_bound { result ≤ 10 }
 {
-    if n < 10 {
-        return 1;
-    }
-    let more = digits_of(n / 10);
-    more + 1
+    n.checked_ilog10().unwrap_or(0) as usize + 1
 }
 
 // How many bytes of the text are a record's own: a plate or two brackets, the colon, the length, a comma before another.
@@ -28,19 +24,16 @@ fn own_bytes(o: &[u8], r: usize) -> usize
 {
     let after = digits_of(branch_of(o, r)) + 1 + (next_of(o, r) != 0) as usize;
     if is_taxon(o, r) {
-        return digits_of(plate_of(o, r)) + after;
+        digits_of(plate_of(o, r)) + after
+    } else {
+        2 + after
     }
-    2 + after
 }
 
-// The bytes of all records. A loop, whose invariant says that each adds at most 30: a `sum` would ask for that of a list.
+// The bytes of all records. The range ends before `size + 1`, as std tells what list such a range gives, and not that of `..=`.
 pub fn bytes_of(o: &[u8]) -> usize
     requires { size o.now ≤ most_records }
     ensures { result ≡ total (own_bytes o.now) (records o.now) }
 {
-    let mut sum = 0;
-    for r in 1..=o.len() / 16 {
-        sum += own_bytes(o, r);
-    }
-    sum
+    (1..o.len() / 16 + 1).map(|r| own_bytes(o, r)).sum()
 }

@@ -46,7 +46,7 @@ pub fn write(outline: &[u8], text: &mut [u8], pairs: &mut [u32]) -> Result<Figur
     }
     let bytes = bytes_of(outline) + 1;
     let taxa = taxa_of(outline);
-    if (text.len() < bytes) | (pairs.len() < 2 * taxa) {
+    if text.len() < bytes || pairs.len() < 2 * taxa {
         return Err(Refusal::BufferTooShort);
     }
     write_all(outline, text, pairs);

@@ -1,6 +1,7 @@
 -- `plates::plates_read` meets its contract.
 use Rattle.std.proofs.Common.{◌≤◌, ap, arith}
 use Rattle.refusals.specs.Reply.{Reply}
+use Rattle.refusals.proofs.Replies.{placed_by}
 use Rattle.outline.specs.Rules.{most_records}
 use Rattle.reading.specs.declared.answer.Figures.{Figures}
 use Rattle.reading.proofs.Bounds.{reply_place_most, reply_records_most}
@@ -15,6 +16,4 @@ overflow_cast-answer c =
 
 -- a place fits 32 bits
 pub refuse-requires : goal.refuse-requires
-refuse-requires c =
-    let e = ap (λ (r : Reply Figures). r.place) c.in-Err.ensures.answered.told_reply in
-    record { room = omega arith; placed = rw e (reply_place_most _) }
+refuse-requires c = record { room = omega arith; placed = placed_by c.in-Err.ensures.answered.told_reply (reply_place_most _) }

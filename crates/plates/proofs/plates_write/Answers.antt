@@ -1,6 +1,7 @@
 -- `plates::plates_write` meets its contract.
 use Rattle.std.proofs.Common.{◌≤◌, ap, arith}
 use Rattle.refusals.specs.Reply.{Reply}
+use Rattle.refusals.proofs.Replies.{placed_by}
 use Rattle.outline.specs.Rules.{most_taxa}
 use Rattle.writing.specs.declared.answer.Figures.{Figures}
 use Rattle.writing.proofs.OwnBytes.{most_written}
@@ -22,6 +23,4 @@ overflow_cast-answer-in-Ok c =
 
 -- a place fits 32 bits
 pub refuse-requires : goal.refuse-requires
-refuse-requires c =
-    let e = ap (λ (r : Reply Figures). r.place) c.in-Err.ensures.told_reply in
-    record { room = omega arith; placed = rw e ((reply_few _).0) }
+refuse-requires c = record { room = omega arith; placed = placed_by c.in-Err.ensures.told_reply ((reply_few _).0) }

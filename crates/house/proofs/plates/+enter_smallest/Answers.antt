@@ -1,5 +1,5 @@
 use Rattle.std.proofs.Common.{arith, ◌∙◌, length-set}
-use Rattle.outline.proofs.WellFormed.{left_less}
+use Rattle.outline.proofs.WellFormed.{first_less, next_less}
 use Rattle.house.proofs.Entering.{none_entered, own_smallest, chain_entered}
 use Rattle.house.proofs.plates.+enter_smallest.Goals as goal
 
@@ -8,23 +8,14 @@ returns-then-r-eq0 t c = none_entered c.if-r-eq0.true
 
 pub enter_smallest-below-requires : goal.enter_smallest-below-requires
 enter_smallest-below-requires t c =
-    let later = c.requires.formed.linked.first_later c.args.r (omega arith) c.requires.most in
-    rw c.first_of.ensures (
-      omega (arith, left_less _ _ _ (omega arith) c.requires.most later),
-      record { formed = c.requires.formed; most = later.most; long = c.requires.long },
-    )
+    let (less, most) = first_less c.requires.formed.linked (omega arith) c.requires.most c.first_of.ensures in
+    (omega (arith, less, c.decreases), record { formed = c.requires.formed; most = most; long = c.requires.long })
 
 pub enter_smallest-rest-requires : goal.enter_smallest-rest-requires
 enter_smallest-rest-requires t c =
-    let later = c.requires.formed.linked.next_later c.args.r (omega arith) c.requires.most in
-    rw c.next_of.ensures (
-      omega (arith, left_less _ _ _ (omega arith) c.requires.most later),
-      record {
-        formed = c.requires.formed;
-        most = later.most;
-        long = length-set _ _ _ ∙ c.enter_smallest-below.ensures.long ∙ c.requires.long;
-      },
-    )
+    let (less, most) = next_less c.requires.formed.linked (omega arith) c.requires.most c.next_of.ensures in
+    let long = length-set _ _ _ ∙ c.enter_smallest-below.ensures.long ∙ c.requires.long in
+    (omega (arith, less, c.decreases), record { formed = c.requires.formed; most = most; long = long })
 
 pub returns : goal.returns
 returns t c =

@@ -9,5 +9,5 @@ returns-then-p-eq0 c = none_first c.if-p-eq0.true
 pub returns-then-q-eq0 : goal.returns-then-q-eq0
 returns-then-q-eq0 c = none_second c.if-q-eq0.true
 
-pub returns : goal.returns
-returns c = rw (smaller_min c.args.p c.args.q (omega arith) (omega arith)) (search rules)
+pub returns-else-q-eq0 : goal.returns-else-q-eq0
+returns-else-q-eq0 c = rw (smaller_min c.args.p c.args.q (omega arith) (omega arith)) (search rules)

@@ -1,20 +1,28 @@
-use Rattle.std.proofs.Common.{arith}
+use Rattle.std.proofs.Common.{arith, length-take, subst, sym}
+use Rattle.text.specs.Written.{LongEnough}
 use Rattle.text.proofs.Walks.{walking_starts, walking_fits, walking_goes, walking_ends}
-use Rattle.listing.specs.FromBuffers.{taxon_text, taxa_text}
+use Rattle.listing.specs.FromBuffers.{taxa_text}
+use Rattle.listing.proofs.Rows.{row_read}
 use Rattle.listing.proofs.taxa.put_taxa.Goals as goal
 
-pub loop-k-init : goal.loop-k-init
+pub loop-plate-init : goal.loop-plate-init
 unfolding taxa_text
-loop-k-init c = walking_starts _ _ _ _ c.requires.1
+loop-plate-init c = walking_starts _ _ _ _ c.requires.1
 
 pub put_line-requires : goal.put_line-requires
-unfolding taxon_text
-put_line-requires c = (omega arith, walking_fits c.loop-k.invariant (omega arith))
+put_line-requires c =
+    let within = rw length-take at c.loop-plate-test.true in
+    let read = row_read _ _ _ c.as_chunks.ensures.front c.as_chunks.ensures.front_len c.loop-plate-test.true in
+    (omega arith, subst (λ line. LongEnough line c.loop-plate.pen) (sym read) (walking_fits c.loop-plate.invariant (omega (arith, within))))
 
-pub loop-k-preserved : goal.loop-k-preserved
-unfolding taxon_text
-loop-k-preserved c = walking_goes c.loop-k.invariant (omega arith) c.put_line.ensures
+pub loop-plate-preserved : goal.loop-plate-preserved
+loop-plate-preserved c =
+    let within = rw length-take at c.loop-plate-test.true in
+    let read = row_read _ _ _ c.as_chunks.ensures.front c.as_chunks.ensures.front_len c.loop-plate-test.true in
+    walking_goes c.loop-plate.invariant (omega (arith, within)) (rw read at c.put_line.ensures)
 
 pub returns : goal.returns
 unfolding taxa_text
-returns c = walking_ends c.loop-k.invariant (omega arith)
+returns c =
+    let past = rw length-take at c.loop-plate-test.false in
+    walking_ends c.loop-plate.invariant (omega (arith, past, c.as_chunks.ensures.front_len))

@@ -3,5 +3,5 @@ use Rattle.text.proofs.Walks.{Walking}
 use Rattle.listing.specs.FromBuffers.{taxon_text}
 use Rattle.listing.proofs.taxa.put_taxa.Given as goal
 
-abbrev pub invariant-loop-k : goal.invariant-loop-k
-invariant-loop-k l = Walking (taxon_text l.sheet) 0 l.rows l.initial.pen l.k l.pen
+abbrev pub invariant-loop-plate : goal.invariant-loop-plate
+invariant-loop-plate l = Walking (taxon_text l.sheet) 0 l.rows l.initial.pen l.plate-index l.pen

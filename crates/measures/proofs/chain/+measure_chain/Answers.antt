@@ -1,20 +1,20 @@
 use Rattle.std.proofs.Common.{arith}
-use Rattle.outline.proofs.WellFormed.{left_less}
+use Rattle.outline.proofs.WellFormed.{first_less, next_less}
 use Rattle.measures.proofs.Parts.{no_chain, parts_addable, chain_measured}
 use Rattle.measures.proofs.chain.+measure_chain.Goals as goal
 
 pub returns-then-r-eq0 : goal.returns-then-r-eq0
-returns-then-r-eq0 t c = rw c.if-r-eq0.true no_chain
+returns-then-r-eq0 t c = no_chain c.default.result c.if-r-eq0.true c.default.ensures
 
 pub measure_chain-members-requires : goal.measure_chain-members-requires
 measure_chain-members-requires t c =
-    let later = c.requires.base.formed.linked.first_later c.args.r (omega arith) c.requires.most in
-    rw c.first_of-f.ensures (omega (arith, left_less _ _ _ (omega arith) c.requires.most later), record { base = c.requires.base; most = later.most })
+    let (less, most) = first_less c.requires.base.formed.linked (omega arith) c.requires.most c.first_of-f.ensures in
+    (omega (arith, less, c.decreases), record { base = c.requires.base; most = most })
 
 pub measure_chain-rest-requires : goal.measure_chain-rest-requires
 measure_chain-rest-requires t c =
-    let later = c.requires.base.formed.linked.next_later c.args.r (omega arith) c.requires.most in
-    rw c.next_of-n.ensures (omega (arith, left_less _ _ _ (omega arith) c.requires.most later), record { base = c.requires.base; most = later.most })
+    let (less, most) = next_less c.requires.base.formed.linked (omega arith) c.requires.most c.next_of-n.ensures in
+    (omega (arith, less, c.decreases), record { base = c.requires.base; most = most })
 
 pub add-requires : goal.add-requires
 add-requires t c =

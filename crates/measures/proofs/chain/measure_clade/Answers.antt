@@ -1,7 +1,7 @@
 -- `measures::chain::measure_clade` meets its contract: the record counts where a taxon at or below it is chosen.
-use Rattle.std.proofs.Common.{◌+◌, ap}
+use Rattle.std.proofs.Common.{◌+◌, ap, ◌∙◌}
+use Rattle.lists.specs.Lists.{one}
 use Rattle.lists.proofs.Bools.{byte_one}
-use Rattle.diversity.specs.Diversity.{chosen}
 use Rattle.measures.proofs.Parts.{taxa_fit, cost_fits, diversity_fits, clade_measured}
 use Rattle.measures.proofs.chain.measure_clade.Goals as goal
 
@@ -15,5 +15,6 @@ pub overflow_add-result-2 : goal.overflow_add-result-2
 overflow_add-result-2 c = record { fits = diversity_fits c.requires _ c.branch_counted.ensures }
 
 pub returns : goal.returns
-unfolding chosen
-returns c = clade_measured c.requires (ap (λ k. c.args.members.taxa + k) (byte_one _)) c.price_counted.ensures c.branch_counted.ensures
+returns c =
+    let own = byte_one c.is_chosen-own.result ∙ ap one c.is_chosen-own.ensures in
+    clade_measured c.requires (ap (λ k. c.args.members.taxa + k) own) c.price_counted.ensures c.branch_counted.ensures

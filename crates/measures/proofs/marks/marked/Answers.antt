@@ -7,7 +7,7 @@ use Rattle.measures.proofs.Parts.{taxa_few}
 use Rattle.measures.proofs.marks.marked.Goals as goal
 
 found : (c : goal.After-count) → Marked c.args.o.now c.args.marks.now c.count.result
-unfolding chosen chosen_taxa records
+unfolding chosen_taxa records
 found c = taxa_few c.requires (c.count.ensures (chosen c.args.marks.now) (λ r l u b p. search rules))
 
 pub overflow_cast-result : goal.overflow_cast-result

@@ -1,12 +1,12 @@
 use Rattle.std.proofs.Common.{arith}
 use Rattle.lists.proofs.Walk.{summing_starts, summing_goes, summing_ends}
 use Rattle.outline.specs.Outline.{records}
-use Rattle.quick.proofs.Adding.{sums_start}
+use Rattle.quick.proofs.Adding.{no_sums, sums_start}
 use Rattle.quick.proofs.Bounds.{part_most}
 use Rattle.quick.proofs.ceiling.parts_of.Goals as goal
 
 pub loop-r-init : goal.loop-r-init
-loop-r-init c = (summing_starts _ _, sums_start c.none-sums.ensures)
+loop-r-init c = (summing_starts _ _, sums_start (no_sums c.default-sums.result c.default-sums.ensures))
 
 pub loop-r-preserved : goal.loop-r-preserved
 loop-r-preserved c =

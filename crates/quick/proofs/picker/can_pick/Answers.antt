@@ -1,8 +1,6 @@
 -- `quick::picker::can_pick` meets its contract.
-use Rattle.diversity.specs.Diversity.{chosen}
 use Rattle.quick.proofs.Hand.{can_pick_is}
 use Rattle.quick.proofs.picker.can_pick.Goals as goal
 
 pub returns : goal.returns
-unfolding chosen
-returns c = can_pick_is c.requires c.args.room c.is_taxon.ensures
+returns c = can_pick_is c.requires c.args.room c.is_taxon.ensures c.is_chosen-open.ensures

@@ -5,5 +5,5 @@ use Rattle.quick.proofs.picker.in_hand.Goals as goal
 pub returns-then-can_pick-hand : goal.returns-then-can_pick-hand
 returns-then-can_pick-hand c = hand_taken c.requires _ c.can_pick.ensures c.rather.ensures c.if-can_pick-hand.true
 
-pub returns : goal.returns
-returns c = hand_kept c.requires _ c.can_pick.ensures c.rather.ensures c.if-can_pick-hand.false
+pub returns-else-can_pick-hand : goal.returns-else-can_pick-hand
+returns-else-can_pick-hand c = hand_kept c.requires _ c.can_pick.ensures c.rather.ensures c.if-can_pick-hand.false

@@ -1,13 +1,11 @@
 -- `sheet::firsts::place_of` meets its contract.
-use Rattle.std.proofs.Common.{eq-eqb, ne_eqb}
-use Rattle.diversity.specs.Diversity.{chosen}
 use Rattle.sheet.specs.Inner.{place_of}
 use Rattle.sheet.proofs.firsts.place_of.Goals as goal
 
-pub returns-then-set-r-eq1 : goal.returns-then-set-r-eq1
-unfolding place_of chosen
-returns-then-set-r-eq1 c = rw (eq-eqb _ _ c.if-set-r-eq1.true)
+pub returns-then-is_chosen : goal.returns-then-is_chosen
+unfolding place_of
+returns-then-is_chosen c = rw (← c.is_chosen.ensures, c.if-is_chosen.true)
 
-pub returns : goal.returns
-unfolding place_of chosen
-returns c = rw (ne_eqb _ _ c.if-set-r-eq1.false)
+pub returns-else-is_chosen : goal.returns-else-is_chosen
+unfolding place_of
+returns-else-is_chosen c = rw (← c.is_chosen.ensures, c.if-is_chosen.false)

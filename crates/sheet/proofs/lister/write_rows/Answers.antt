@@ -8,8 +8,8 @@ use Rattle.sheet.proofs.lister.write_rows.Goals as goal
 
 pub loop-r-init : goal.loop-r-init
 loop-r-init c =
-    let rows = row_in c.args.o.now c.args.set.now c.quarters_of-quarters.result c.diversity_of-diversity.result in
-    walking_starts rows 1 (size c.args.o.now) _ (omega (arith, rows_fit _ _ c.quarters_of-quarters.result c.diversity_of-diversity.result c.requires))
+    let rows = row_in c.args.o.now c.args.set.now c.of-adds.result in
+    walking_starts rows 1 (size c.args.o.now) _ (omega (arith, rows_fit _ _ c.of-adds.result c.requires))
 
 pub put_row-requires : goal.put_row-requires
 put_row-requires c =
@@ -25,9 +25,9 @@ loop-r-preserved c = walking_goes c.loop-r.invariant (omega arith) c.put_row.ens
 pub returns : goal.returns
 returns c =
     let written = walking_ends c.loop-r.invariant (omega arith) in
-    rw (← rows_in _ _ _ _ c.args.way c.quarters_of-quarters.ensures c.diversity_of-diversity.ensures) (put_over written refl (search rules))
+    rw (← rows_in _ _ _ c.args.way c.of-adds.ensures) (put_over written refl (search rules))
 
 pub returns-2 : goal.returns-2
 returns-2 c =
     let written = walking_ends (walking_goes c.loop-r.invariant (omega arith) c.put_row.ensures) (omega arith) in
-    rw (← rows_in _ _ _ _ c.args.way c.quarters_of-quarters.ensures c.diversity_of-diversity.ensures) (put_over written refl (search rules))
+    rw (← rows_in _ _ _ c.args.way c.of-adds.ensures) (put_over written refl (search rules))

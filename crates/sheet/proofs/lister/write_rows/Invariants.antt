@@ -5,4 +5,4 @@ use Rattle.sheet.specs.Inner.{row_in}
 use Rattle.sheet.proofs.lister.write_rows.Given as goal
 
 abbrev pub invariant-loop-r : goal.invariant-loop-r
-invariant-loop-r l = Walking (row_in l.o l.set l.quarters l.diversity) 1 (size l.o) l.initial.pen l.r l.pen
+invariant-loop-r l = Walking (row_in l.o l.set l.adds) 1 (size l.o) l.initial.pen l.r l.pen

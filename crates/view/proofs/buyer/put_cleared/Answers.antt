@@ -3,10 +3,10 @@ use Rattle.view.specs.View.{buyer_record}
 use Rattle.view.proofs.Cleared.{record_fits}
 use Rattle.view.proofs.buyer.put_cleared.Goals as goal
 
-pub put_record-requires : goal.put_record-requires
-put_record-requires c = record_fits c.requires _ _ _ _ _
+pub put-requires : goal.put-requires
+put-requires c = record_fits c.requires _ _ _ _ _
 
 pub returns : goal.returns
 unfolding buyer_record
 returns c =
-    rw (← c.next_of-next.ensures, ← c.first_of-first.ensures, ← c.branch_of-branch.ensures, ← c.plate_of-plate.ensures) c.put_record.ensures
+    rw (← c.next_of.ensures, ← c.first_of.ensures, ← c.branch_of.ensures, ← c.plate_of.ensures) c.put.ensures

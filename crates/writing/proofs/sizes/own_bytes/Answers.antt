@@ -8,6 +8,6 @@ returns-then-is_taxon-clause-value c =
     own_taxon _ _ (sym c.if-is_taxon.ensures) c.plate_of.ensures c.digits_of-then-is_taxon.ensures.value c.branch_of.ensures
     c.digits_of.ensures.value c.next_of.ensures
 
-pub returns-clause-value : goal.returns-clause-value
-returns-clause-value c =
+pub returns-else-is_taxon-clause-value : goal.returns-else-is_taxon-clause-value
+returns-else-is_taxon-clause-value c =
     own_group _ _ (sym c.if-is_taxon.ensures) c.branch_of.ensures c.digits_of.ensures.value c.next_of.ensures

@@ -3,6 +3,6 @@ use Rattle.std.proofs.Common.{arith}
 use Rattle.records.proofs.Records.{record_length}
 use Rattle.reading.proofs.draft.Draft.draft_record.Goals as goal
 
-pub put_record-requires : goal.put_record-requires
-put_record-requires c =
+pub put-requires : goal.put-requires
+put-requires c =
     omega (arith, record_length c.args.next c.args.part.first c.args.part.length c.price_of-price.result c.args.part.plate)

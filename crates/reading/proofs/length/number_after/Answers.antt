@@ -1,6 +1,6 @@
--- `reading::part::number_after` meets its contract: a number, or any other token, or none.
+-- `reading::length::number_after` meets its contract: a number, or any other token, or none.
 use Rattle.reading.proofs.Lengths.{number_nowhere, number_missing, number_there}
-use Rattle.reading.proofs.part.number_after.Goals as goal
+use Rattle.reading.proofs.length.number_after.Goals as goal
 
 pub returns-in_err-token : goal.returns-in_err-token
 returns-in_err-token c = rw c.from_residual.ensures (number_nowhere _ c.in_err-token.ensures)

@@ -1,6 +1,6 @@
--- `reading::part::follow` meets its contract: a colon, a number and a token, or a token, or nothing.
+-- `reading::length::follow` meets its contract: a colon, a number and a token, or a token, or nothing.
 use Rattle.reading.proofs.Lengths.{stops_nowhere, follows_other, colon_stops, length_stops, length_follows}
-use Rattle.reading.proofs.part.follow.Goals as goal
+use Rattle.reading.proofs.length.follow.Goals as goal
 
 pub returns-in_err-token : goal.returns-in_err-token
 returns-in_err-token c = rw c.from_residual.ensures (stops_nowhere _ c.in_err-token.ensures)

@@ -1,0 +1,2 @@
+-- The bytes of a record.
+pub mod Bytes
