@@ -1,7 +1,8 @@
 // The fields of an outline's records. An outline and a record's number are passed side by side. A struct of both was tried and is no
 // plainer: a clause says `price r.now.0 r.now.1` for `price o.now r`, it can't be `Copy`, and a link that may be 0 does not fit it. These are
 // no methods of an accepted outline, since the check reads fields before it accepts one; why there is no such type stands in
-// measures/src/lib.rt.
+// measures/src/lib.rt. How many records there are is written out, `o.len() / 16`, which the check computes: a call's result is known by an
+// equation alone, which each loop's bound would need.
 ghost use Rattle.std.specs.Prelude.{◌≡◌, ◌+◌, ◌<◌, length};
 ghost use Rattle.outline.specs.Outline.{short, long, next, first, branch, price, plate_field, plate, is_taxon, locked, IsRecord};
 

@@ -8,7 +8,8 @@ use text::Pen;
 // A draft has room for 127 records.
 const ROOM: usize = 16 * MOST_RECORDS;
 
-// The fields of a part's record that its text says: its first member, its length and its plate.
+// The fields of a part's record that its text says, as the record has them: its first member, 0 at a taxon, its length, and its plate, 0 at a
+// group.
 #[derive(Clone, Copy)]
 pub struct Part {
     pub first: usize,

@@ -51,18 +51,14 @@ fn read_short(text: &[u8], pairs: &[u32], outline: &mut [u8]) -> Result<Figures,
     ensures { Answered (call text.now pairs.now outline.old) (told result) outline.new }
 {
     match draft_tree(text, pairs) {
-        Err(Flaw::Malformed) => Err(Refusal::BadText),
-        Err(Flaw::TooMany) => {
-            // the readers stop there, since their calls nest; the rest of the text decides between 10 and 3
-            if is_tree(text) {
-                return Err(Refusal::TooManyRecords);
-            }
-            Err(Refusal::BadText)
-        }
         Ok(draft) => {
             let end = 16 * draft.cursor.records;
             place(&draft.bytes[..end], pairs, outline)
         }
+        Err(Flaw::Malformed) => Err(Refusal::BadText),
+        // the readers stop there, since their calls nest; the rest of the text decides between 10 and 3
+        Err(Flaw::TooMany) if is_tree(text) => Err(Refusal::TooManyRecords),
+        Err(Flaw::TooMany) => Err(Refusal::BadText),
     }
 }
 
