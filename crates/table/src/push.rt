@@ -8,7 +8,9 @@ use super::taxa::{join_terminal, terminal_row};
 use cells::memory::{better_rows, charge_row};
 use outline::fields::{branch_of, first_of, next_of, price_of};
 
-// Charges the row at `to` with the heading of record r, in place; each column then is the better of that and the rest's.
+// Charges the row at `to` with the heading of record r, in place; each column then is the better of that and the rest's. Inlined: by a
+// call all of choosing took 1.13 times as long in a chain of groups, at page count 96.
+#[inline(always)]
 pub fn charge_heading(o: &[u8], r: usize, to: usize, rest: usize, width: usize, work: &mut [u64])
     requires is_record { IsRecord o.now r }
     requires charges { Charges work.old to (branch o.now r) (price o.now r) rest width }
