@@ -6,7 +6,7 @@ ghost use Rattle.house.specs.Compared.{call, judged};
 use outline::check;
 use refusals::Refusal;
 
-// The first row that holds.
+// The first row that holds. Both rooms are one condition, by `|`, as in outline/src/rules.rt.
 pub fn judge(a: &[u8], b: &[u8], form_a: &[u8], form_b: &[u8]) -> Result<(), Refusal>
     ensures { told result ≡ judged (call a.now b.now form_a.now form_b.now) }
 {

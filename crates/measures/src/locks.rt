@@ -12,7 +12,7 @@ use super::marks::{marked, measure};
 use outline::fields::is_locked;
 use outline::limits::MOST_RECORDS;
 
-// Marks them, and no other record; what is past the records is unchanged.
+// Marks them, and no other record; what is past the records is unchanged. That each record has a mark is asked: it is a fact of two slices.
 pub fn mark_locked(o: &[u8], marks: &mut [u8])
     requires { size o.now ≤ length marks.old }
     ensures { marks.new ≡ over (locked_set o.now) marks.old }
