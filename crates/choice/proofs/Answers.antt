@@ -1,4 +1,5 @@
 -- What a call keeps that no row of the table refuses, and the two ways to answer it.
+use Rattle.std.proofs.lemmas.Bool.{or_parts}
 use Rattle.std.specs.Prelude.{Ok, Err}
 use Prim.Native.Nat.{ℕ, ◌≤◌}
 use mathlib.Core.Path.{◌≡◌, sym, ◌∙◌}
@@ -11,7 +12,6 @@ use lib.ListN.{length, take, drop, length-replicate}
 use lib.Seq.{length-take-le}
 use borrow.Author.Tests.{ltb-false, eqb-true}
 use Rattle.lists.specs.Lists.{over}
-use Rattle.lists.proofs.Bools.{both_false}
 use Rattle.refusals.specs.Refusals.{refusal}
 use Rattle.refusals.specs.declared.refusal.Refusal.{Refusal}
 use Rattle.refusals.proofs.Tables.{two_ways}
@@ -63,8 +63,8 @@ module _ (c : Call) where
   unfolding too_short
   selected_solvable e =
       let p = rows_pass e in
-      let short = both_false _ _ p.long in
-      let rest = both_false _ _ short.1 in
+      let short = or_parts _ _ p.long in
+      let rest = or_parts _ _ short.1 in
       record {
         formed = rows_kept c.outline p.sizes p.rows;
         low = p.low;

@@ -1,4 +1,5 @@
 -- Where no taxon is locked, an outline gives what it gave before locks; where every group's price is 0 too, what it gave by document 01.
+use Rattle.std.proofs.lemmas.Bool.{or_parts}
 use Prim.Native.Nat.{ℕ, zero, suc, ◌+◌, ◌-◌, ◌/◌, ◌%◌, ◌≤◌, ◌<◌}
 use mathlib.Core.Path.{◌≡◌, refl, sym, ap, ◌∙◌}
 use mathlib.Core.Bool.{Bool, true, false}
@@ -7,7 +8,6 @@ use native.Mathlib.Omega.{arith}
 use borrow.Author.Tests.{le-leb, ne_eqb, eqb-true, not-false}
 use lib.Dec.{eqb, ltb}
 use Rattle.lists.specs.Lists.{from, lowest, one}
-use Rattle.lists.proofs.Bools.{both_false}
 use Rattle.lists.proofs.Walk.{lowest_ext, lowest_none, anywhere_lowest}
 use Rattle.refusals.specs.Refusals.{row, ◌▸◌}
 use Rattle.outline.specs.Outline.{size, records, branch, price, plate_field, plate, is_taxon, locked}
@@ -52,7 +52,7 @@ module _ (o : List ℕ) (unlocked : Unlocked o) where
       go : (b : Bool) → is_taxon o r ≡ b → plate o r ≡ plate_field o r
       go true t = plate_same r l u t
       go false t =
-          let ranged = both_false (ltb most_price (price o r)) _ (both_false (ltb most_length (branch o r)) _ (rw t at e)).1 in
+          let ranged = or_parts (ltb most_price (price o r)) _ (or_parts (ltb most_length (branch o r)) _ (rw t at e)).1 in
           omega (arith, eqb-true (plate_field o r) 0 (not-false _ ranged.1))
 
   duplicate_same : (r : ℕ) → 1 ≤ r → r ≤ size o → bad_field o r ≡ false → is_duplicate o r ≡ earlier.is_duplicate o r

@@ -1,4 +1,5 @@
 -- A taxon that is free, with every group above it, is always chosen: a set that lacks it is behind the same set with it.
+use Rattle.std.proofs.lemmas.Bool.{or_parts}
 use Rattle.std.specs.Prelude.{if◌then◌else◌}
 use Prim.Native.Nat.{ℕ, zero, suc, ◌+◌, ◌-◌, ◌≤◌}
 use mathlib.Core.Path.{◌≡◌, refl, sym, ap, ap₂, ◌∙◌}
@@ -16,7 +17,6 @@ use Rattle.diversity.specs.Diversity.{chain, clade, chosen, within, cost}
 use Rattle.diversity.specs.Behind.{MarkAt, IsSet, Fits, Behind, less_diversity, more_cost, lacks_first}
 use Rattle.diversity.specs.Headings.{Free}
 use Rattle.diversity.specs.Search.{optimum}
-use Rattle.lists.proofs.Bools.{both_false}
 use Rattle.laws.specs.Locks.{locked_set}
 use Rattle.laws.proofs.Sums.{if_zero, occurs, total_append, total_ext}
 use Rattle.laws.proofs.Locks.{held_each}
@@ -79,7 +79,7 @@ module _ (o s : List ℕ) (x : IsSet o s) (r : ℕ) (l : 1 ≤ r) (u : r ≤ siz
   unfolding anywhere total chosen
   joined_apart [] e z = refl
   joined_apart (q ∷ qs) e z =
-      let (here, later) = both_false (eqb r q) (anywhere (eqb r) qs) e in
+      let (here, later) = or_parts (eqb r q) (anywhere (eqb r) qs) e in
       let apart = eqb-false r q here in
       ap₂ ◌||◌ (ap (λ k. eqb k 1) (joined_else q (ne_eqb (q - 1) (r - 1) (λ d. apart (omega (arith, positive q z)))))) (joined_apart qs later (omega arith))
     where

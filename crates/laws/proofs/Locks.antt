@@ -1,4 +1,5 @@
 -- Locked taxa: holding them all is a matter of counting, and no set that does costs less than the locked taxa by themselves.
+use Rattle.std.proofs.lemmas.Bool.{and_parts}
 use Rattle.std.specs.Prelude.{if◌then◌else◌}
 use Prim.Native.Nat.{ℕ, zero, suc, ◌+◌, ◌-◌, ◌≤◌, ◌<◌}
 use mathlib.Core.Path.{◌≡◌, refl, sym, ap, fun_ext, ◌∙◌}
@@ -11,7 +12,7 @@ use lib.ListN.{length, get_or, get_or-eq_default}
 use borrow.Author.Tests.{leb-true, le-leb, ltb-true, ltb-false}
 use Rattle.lists.specs.Lists.{one, total, positive}
 use Rattle.outline.specs.Outline.{size, records, is_taxon, locked}
-use Rattle.lists.proofs.Bools.{one_le, both_true}
+use Rattle.lists.proofs.Bools.{one_le}
 use Rattle.diversity.specs.Diversity.{chosen, cost, holds_locked, chosen_taxa}
 use Rattle.diversity.specs.Behind.{IsSet, Fits, NoneFits}
 use Rattle.diversity.specs.Search.{fits}
@@ -130,7 +131,7 @@ module _ (o : List ℕ) where
 pub fits_exactly : (o : List ℕ) (b : ℕ) (s : List ℕ) → (fits o b s ≡ true) ↔ Fits o b s
 unfolding fits
 fits_exactly o b s = (
-  λ e. let both = both_true _ _ e in record { cost_most = leb-true _ _ both.0; locked_held = both.1 },
+  λ e. let both = and_parts _ _ e in record { cost_most = leb-true _ _ both.0; locked_held = both.1 },
   λ f. rw (le-leb (cost o s) b f.cost_most) f.locked_held,
 )
 

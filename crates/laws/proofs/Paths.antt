@@ -1,4 +1,5 @@
 -- Where the branches that count lie: on the way up from a chosen record, and between two chosen records.
+use Rattle.std.proofs.lemmas.Bool.{and_parts}
 use Prim.Native.Nat.{ℕ, zero, suc, ◌+◌, ◌≤◌, ◌<◌}
 use mathlib.Core.Path.{◌≡◌, refl, sym, ap, ap₂, subst, ◌∙◌}
 use mathlib.Core.Logic.{inl, inr, ◌↔◌}
@@ -8,7 +9,6 @@ use native.Mathlib.Omega.{arith}
 use lib.Dec.{eqb}
 use borrow.Author.Tests.{eqb-true, eqb-false, eq-eqb, not-true}
 use Rattle.lists.specs.Lists.{one, anywhere, total, lowest}
-use Rattle.lists.proofs.Bools.{both_true}
 use Rattle.lists.proofs.Walk.{anywhere_lowest, lowest_holds}
 use Rattle.refusals.proofs.Tests.{decides_not}
 use Rattle.outline.specs.Outline.{size, next, first, records, IsRecord}
@@ -127,7 +127,7 @@ module _ (o : List ℕ) (linked : Linked o) where
     elsewhere_off_way : elsewhere o s r ≡ true ↔ (u : ℕ) × IsChosen o s u × ¬ OnWay o u r
     unfolding elsewhere
     elsewhere_off_way = (
-      λ e. let (u, j, c) = (records_some o out).0 e in let f = both_true _ _ c in (u, (j, f.0), (outside u).0 f.1),
+      λ e. let (u, j, c) = (records_some o out).0 e in let f = and_parts _ _ c in (u, (j, f.0), (outside u).0 f.1),
       λ (u, c, n). (records_some o out).1 (u, c.0, ap₂ ◌&&◌ c.1 ((outside u).1 n)),
     )
       where
@@ -140,7 +140,7 @@ module _ (o : List ℕ) (linked : Linked o) where
     -- in unrooted diversity exactly if it lies between two chosen records
     pub unrooted_between : (within o s r && elsewhere o s r) ≡ true ↔ (t u : ℕ) × IsChosen o s t × IsChosen o s u × Between o t u r
     unrooted_between = (
-      λ e. let f = both_true _ _ e in
+      λ e. let f = and_parts _ _ e in
           let (t, c, w) = rooted_on_way.0 f.0 in
           let (u, d, n) = elsewhere_off_way.0 f.1 in
           (t, u, c, d, inl (w, n)),

@@ -1,4 +1,5 @@
 -- The taxa of a set up to a record: which they are, and what the next record adds to their number, their cost and their diversity.
+use Rattle.std.proofs.Math.Bool.{and-false, and-true}
 use Rattle.std.specs.Prelude.{if◌then◌else◌}
 use Prim.Native.Nat.{ℕ, suc, ◌+◌, ◌*◌, ◌-◌, ◌≤◌, ◌<◌}
 use mathlib.Core.Path.{◌≡◌, refl, sym, ap, ◌∙◌}
@@ -10,7 +11,6 @@ use lib.ListN.{get_or, take, length-take, get_or-eq_default}
 use lib.Seq.{get_or-take}
 use borrow.Author.Tests.{eqb-true, eqb-false, ltb-true, ltb-false}
 use Rattle.lists.specs.Lists.{one, total}
-use Rattle.lists.proofs.Bools.{and_true, and_false}
 use Rattle.outline.specs.Outline.{size, records}
 use Rattle.diversity.specs.Diversity.{chosen, diversity, cost, chosen_taxa}
 use Rattle.laws.proofs.FewTaxa.{diversity_empty, cost_empty}
@@ -35,8 +35,8 @@ module _ (s : List ℕ) where
   chosen_up_to i r = go (ltb (r - 1) i) refl
     where
       go : (b : Bool) → ltb (r - 1) i ≡ b → chosen (take i s) r ≡ (chosen s r && b)
-      go true e = chosen_inside i r (ltb-true _ _ e) ∙ sym (and_true (chosen s r))
-      go false e = chosen_past i r (ltb-false _ _ e) ∙ sym (and_false (chosen s r))
+      go true e = chosen_inside i r (ltb-true _ _ e) ∙ sym (and-true (chosen s r))
+      go false e = chosen_past i r (ltb-false _ _ e) ∙ sym (and-false (chosen s r))
 
   -- ---- one record more
   module _ (i : ℕ) where

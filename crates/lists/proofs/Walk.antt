@@ -1,5 +1,6 @@
 -- Loops through the numbers 1 to n, by what each has yet to pass: one that sums, one that folds, and one that seeks the
 -- lowest number at which a test holds; and what `lowest` then tells.
+use Rattle.std.proofs.lemmas.Bool.{or_parts}
 use Prim.Native.Nat.{ℕ, zero, suc, ◌+◌, ◌*◌, ◌-◌, ◌≤◌, ◌<◌}
 use mathlib.Core.Path.{◌≡◌, refl, sym, ap, ◌∙◌}
 use mathlib.Core.Bool.{Bool, true, false, not, false≢true}
@@ -10,7 +11,6 @@ use lib.Dec.{eqb}
 use borrow.Author.Tests.{eq-eqb, ne_eqb, eqb-true, eqb-false, not-false}
 use Rattle.std.specs.Prelude.{if◌then◌else◌, Some, None, is_some, unwrap_or}
 use Rattle.lists.specs.Lists.{from, anywhere, total, lowest, nonzero}
-use Rattle.lists.proofs.Bools.{both_false}
 
 -- what is left to pass at r
 abbrev pub rest : ℕ → ℕ → List ℕ
@@ -227,4 +227,4 @@ from_last k n = let e : suc n ≡ n + 1 = omega arith in ap (from k) e ∙ from_
 pub nowhere_both : (p : ℕ → Bool) (xs ys : List ℕ) → anywhere p xs ≡ false → anywhere p ys ≡ false → anywhere p (xs ++ ys) ≡ false
 unfolding anywhere
 nowhere_both p [] ys e f = f
-nowhere_both p (x ∷ xs) ys e f = let parts = both_false (p x) (anywhere p xs) e in rw parts.0 (nowhere_both p xs ys parts.1 f)
+nowhere_both p (x ∷ xs) ys e f = let parts = or_parts (p x) (anywhere p xs) e in rw parts.0 (nowhere_both p xs ys parts.1 f)

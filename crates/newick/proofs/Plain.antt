@@ -1,4 +1,5 @@
 -- An accepted outline that no row 13 stops: what its records keep, so that its text spells its tree.
+use Rattle.std.proofs.lemmas.Bool.{or_parts}
 use Prim.Native.Nat.{ℕ, zero, suc, ◌/◌, ◌%◌, ◌≤◌, ◌<◌}
 use mathlib.Core.Path.{◌≡◌, refl, ap}
 use mathlib.Core.Bool.{true, false, ◌||◌, ◌&&◌, not}
@@ -7,7 +8,7 @@ use native.Mathlib.Omega.{arith}
 use lib.Dec.{ltb}
 use borrow.Author.Tests.{eqb-false, ltb-false}
 use Rattle.lists.specs.Lists.{Bytes}
-use Rattle.lists.proofs.Bools.{both_false, second_false}
+use Rattle.lists.proofs.Bools.{second_false}
 use Rattle.outline.specs.WellFormed.{WellFormed}
 use Rattle.outline.specs.Outline.{price, plate_field, lock_bit, plate, is_taxon, locked, IsRecord}
 use Rattle.newick.specs.Inner.{InRange}
@@ -24,11 +25,11 @@ pub record Plain (o : List ℕ) : Type 0 where
 module _ {o : List ℕ} (plain : Plain o) (r : ℕ) (i : IsRecord o r) where
   parts : ((not (is_taxon o r) && ltb 0 (price o r)) ≡ false) × ((locked o r || ltb most_number (plate o r)) ≡ false)
   unfolding unwritable
-  parts = both_false _ _ (plain.writable r i)
+  parts = or_parts _ _ (plain.writable r i)
 
   -- a plate has at most nine digits
   pub plate_small : plate o r ≤ most_number
-  plate_small = ltb-false most_number (plate o r) (both_false (locked o r) (ltb most_number (plate o r)) parts.1).1
+  plate_small = ltb-false most_number (plate o r) (or_parts (locked o r) (ltb most_number (plate o r)) parts.1).1
 
   -- a heading is free
   pub heading_free : is_taxon o r ≡ false → price o r ≡ 0
@@ -40,7 +41,7 @@ module _ {o : List ℕ} (plain : Plain o) (r : ℕ) (i : IsRecord o r) where
   pub field_plate : Bytes o → is_taxon o r ≡ true → plate_field o r ≡ plate o r
   unfolding locked
   field_plate small e =
-      let free = eqb-false _ _ (second_false (is_taxon o r) _ (both_false (locked o r) (ltb most_number (plate o r)) parts.1).0 e) in
+      let free = eqb-false _ _ (second_false (is_taxon o r) _ (or_parts (locked o r) (ltb most_number (plate o r)) parts.1).0 e) in
       go (plate_field o r / lock_bit) refl free (long_small o small _)
     where
       go : (bit : ℕ) → plate_field o r / lock_bit ≡ bit → (bit % 2 ≡ 1 → ⊥) → plate_field o r < 4294967296 → plate_field o r ≡ plate o r

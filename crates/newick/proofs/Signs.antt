@@ -1,4 +1,5 @@
 -- The class of a byte, by the tests that find it.
+use Rattle.std.proofs.lemmas.Bool.{and_parts}
 use Rattle.std.specs.Prelude.{if◌then◌else◌}
 use Prim.Native.Nat.{ℕ, ◌≤◌}
 use mathlib.Core.Path.{◌≡◌, refl, sym, ap, ◌∙◌}
@@ -8,7 +9,6 @@ use lib.Dec.{eqb, leb}
 use borrow.Author.Tests.{ne_eqb, le-leb, leb-true}
 use Rattle.newick.specs.Grammar.{Digit, Blank, blank, tab, line_feed, carriage_return}
 use Rattle.newick.specs.Parsing.{sign_of, digit_sign, is_digit}
-use Rattle.lists.proofs.Bools.{both_true}
 use Rattle.newick.specs.declared.sign.Sign.{Sign}
 
 pub sign_digit : {b : ℕ} → 48 ≤ b → b ≤ 57 → sign_of b ≡ Sign.Digit
@@ -52,7 +52,7 @@ digit_test b = go (leb 48 b && leb b 57) refl
   where
     go : (t : Bool) → (leb 48 b && leb b 57) ≡ t → t ≡ is_digit b
     go true e =
-        let both = both_true (leb 48 b) (leb b 57) e in
+        let both = and_parts (leb 48 b) (leb b 57) e in
         sym (ap digit_sign (sign_digit (leb-true 48 b both.0) (leb-true b 57 both.1)))
     go false e = sym (no_digit_sign b e)
 
@@ -60,5 +60,5 @@ pub digit_range : (b : ℕ) → is_digit b ≡ true → Digit b
 digit_range b h = go (leb 48 b && leb b 57) refl
   where
     go : (t : Bool) → (leb 48 b && leb b 57) ≡ t → Digit b
-    go true e = let both = both_true (leb 48 b) (leb b 57) e in record { low = leb-true 48 b both.0; high = leb-true b 57 both.1 }
+    go true e = let both = and_parts (leb 48 b) (leb b 57) e in record { low = leb-true 48 b both.0; high = leb-true b 57 both.1 }
     go false e = absurd (false≢true (sym (no_digit_sign b e) ∙ h))

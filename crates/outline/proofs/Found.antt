@@ -1,4 +1,5 @@
 -- What the finder gives: the record of the one taxon that has the plate, where the outline is accepted and there is one.
+use Rattle.std.proofs.lemmas.Bool.{and_parts}
 use Rattle.std.specs.Prelude.{if◌then◌else◌}
 use Prim.Native.Nat.{ℕ, ◌+◌, ◌*◌, ◌-◌, ◌%◌, ◌≤◌, ◌<◌}
 use mathlib.Core.Path.{◌≡◌, refl, sym, ap, ◌∙◌}
@@ -11,7 +12,6 @@ use lib.Seq.{length-take-le, get_or-take, get_or-drop}
 use lib.Dec.{eqb}
 use borrow.Author.Tests.{eqb-true, eqb-false, eq-eqb, ne_eqb}
 use Rattle.lists.specs.Lists.{lowest}
-use Rattle.lists.proofs.Bools.{both_true}
 use Rattle.lists.proofs.Walk.{lowest_none, lowest_holds, lowest_le}
 use Rattle.outline.specs.Outline.{short, long, size, records, lock_bit, plate, is_taxon}
 use Rattle.outline.specs.Answer.{is_accepted, found_at, found}
@@ -63,7 +63,7 @@ module _ (o : List ℕ) (p : ℕ) where
   unfolding at records has_plate
   at_holds d =
       let (low, high, e) = lowest_holds (has_plate o p) (size o) d in
-      let both = both_true _ _ e in
+      let both = and_parts _ _ e in
       (low, high, both.0, eqb-true _ _ both.1)
 
   -- where a taxon has the plate, the lowest is that one

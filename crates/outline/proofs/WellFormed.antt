@@ -1,4 +1,5 @@
 -- An outline that the check accepts keeps every rule.
+use Rattle.std.proofs.lemmas.Bool.{or_parts}
 use Prim.Native.Nat.{ℕ, zero, suc, ◌-◌, ◌*◌, ◌%◌, ◌≤◌, ◌<◌}
 use mathlib.Core.Path.{◌≡◌, refl, sym, ◌∙◌}
 use mathlib.Core.Bool.{Bool, true, false, ◌||◌, not, false≢true}
@@ -7,7 +8,7 @@ use native.Mathlib.Omega.{arith}
 use lib.ListN.{length}
 use lib.Dec.{eqb, ltb}
 use borrow.Author.Tests.{eqb-true, eqb-false, ltb-true, ltb-false, leb-false, ne_eqb, not-false}
-use Rattle.lists.proofs.Bools.{both_false, second_false}
+use Rattle.lists.proofs.Bools.{second_false}
 use Rattle.lists.proofs.Walk.{lowest_none, anywhere_none}
 use Rattle.refusals.proofs.Refusals.{both_pass, row_fails, row_at_fails}
 use Rattle.outline.specs.Outline.{size, next, first, plate, is_taxon}
@@ -20,8 +21,8 @@ module _ (o : List ℕ) (r : ℕ) where
   ranged_by : (b : Bool) → is_taxon o r ≡ b → bad_field o r ≡ false → Ranged o r
   unfolding bad_field
   ranged_by true t e =
-      let e' = both_false _ _ (simp t at e) in
-      let f = both_false _ _ e'.1 in
+      let e' = or_parts _ _ (simp t at e) in
+      let f = or_parts _ _ e'.1 in
       let p = eqb-false (plate o r) 0 f.1 in
       record {
         branch_most = ltb-false _ _ e'.0;
@@ -30,8 +31,8 @@ module _ (o : List ℕ) (r : ℕ) where
         group_plate = λ g. absurd (false≢true (sym g ∙ t));
       }
   ranged_by false t e =
-      let e' = both_false _ _ (simp t at e) in
-      let f = both_false _ _ e'.1 in
+      let e' = or_parts _ _ (simp t at e) in
+      let f = or_parts _ _ e'.1 in
       record {
         branch_most = ltb-false _ _ e'.0;
         price_most = ltb-false _ _ f.0;
@@ -42,20 +43,20 @@ module _ (o : List ℕ) (r : ℕ) where
   later_by : (link : ℕ) (b : Bool) → eqb link 0 ≡ b → stray o r link ≡ false → Later o r link
   later_by link true t e = let z = eqb-true link 0 t in record { later = λ h. absurd (omega arith); most = omega arith }
   later_by link false t e =
-      let f = both_false _ _ (simp t at e) in
+      let f = or_parts _ _ (simp t at e) in
       record { later = λ _. leb-false _ _ f.0; most = ltb-false _ _ f.1 }
 
   own_links : bad_link o r ≡ false → Later o r (next o r) × Later o r (first o r)
   unfolding bad_link
   own_links e =
-      let f = both_false _ _ (both_false _ _ e).0 in
+      let f = or_parts _ _ (or_parts _ _ e).0 in
       (later_by (next o r) _ refl f.0, later_by (first o r) _ refl f.1)
 
   named_by : 2 ≤ r → bad_link o r ≡ false → named o r ≡ 1
   unfolding bad_link
   named_by h e =
       let other : eqb r 1 ≡ false = ne_eqb r 1 (omega arith) in
-      eqb-true _ _ (not-false _ (simp other at (both_false (stray o r (next o r) || stray o r (first o r)) _ e).1))
+      eqb-true _ _ (not-false _ (simp other at (or_parts (stray o r (next o r) || stray o r (first o r)) _ e).1))
 
   undoubled : is_duplicate o r ≡ false → (q : ℕ) → 1 ≤ q → q < r → is_taxon o q ≡ true → plate o q ≡ plate o r → ⊥
   unfolding is_duplicate has_plate
@@ -63,7 +64,7 @@ module _ (o : List ℕ) (r : ℕ) where
 
 root_by : (o : List ℕ) → bad_link o 1 ≡ false → next o 1 ≡ 0
 unfolding bad_link
-root_by o e = eqb-true _ _ (not-false _ (both_false (stray o 1 (next o 1) || stray o 1 (first o 1)) _ e).1)
+root_by o e = eqb-true _ _ (not-false _ (or_parts (stray o 1 (next o 1) || stray o 1 (first o 1)) _ e).1)
 
 differ : (o : List ℕ) (q r : ℕ) → 1 ≤ q → 1 ≤ r → is_taxon o q ≡ true → is_taxon o r ≡ true → plate o q ≡ plate o r
     → is_duplicate o q ≡ false → is_duplicate o r ≡ false → (a : Bool) → ltb q r ≡ a → (b : Bool) → ltb r q ≡ b → q ≡ r
@@ -74,7 +75,7 @@ differ o q r lq lr tq tr e uq ur false a false b = omega (arith, ltb-false q r a
 -- ---- the rows
 sized : (o : List ℕ) → (eqb (length o) 0 || not (eqb (length o % 16) 0)) ≡ false → (1 ≤ size o) × (length o ≡ 16 * size o)
 sized o e =
-    let f = both_false (eqb (length o) 0) (not (eqb (length o % 16) 0)) e in
+    let f = or_parts (eqb (length o) 0) (not (eqb (length o % 16) 0)) e in
     omega (arith, eqb-false (length o) 0 f.0, eqb-true (length o % 16) 0 (not-false _ f.1))
 
 -- rows 2 and 3

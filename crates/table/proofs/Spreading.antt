@@ -1,4 +1,5 @@
 -- The steps of spreading: what each call asks, and what it leaves.
+use Rattle.std.proofs.lemmas.Bool.{or_parts}
 use Rattle.std.specs.Prelude.{if◌then◌else◌}
 use Rattle.std.proofs.lemmas.Bool.{cases_lt}
 use Prim.Native.Nat.{ℕ, ◌+◌, ◌*◌, ◌-◌, ◌<◌, ◌≤◌}
@@ -11,7 +12,6 @@ use lib.Dec.{eqb, leb}
 use lib.ListN.{length}
 use borrow.Author.Tests.{le-leb, le-ltb, lt-leb, ne_eqb, eqb-false}
 use Rattle.lists.specs.Lists.{one}
-use Rattle.lists.proofs.Bools.{both_false}
 use Rattle.outline.specs.Outline.{branch, price, locked}
 use Rattle.laws.specs.Candidate.{Value, nothing_worth, heading, beats, Cand, none, some, better_of, join_of, charge_of, one_at, From, this}
 use Rattle.laws.proofs.Order.{better_none, better_comm, better_assoc}
@@ -100,7 +100,7 @@ module _ {o : List ℕ} {w : ℕ} {l : List ℕ} (running : Running o w l) (r ab
 
   pub bettered_dear : {cost : ℕ} → cost ≡ above + price o r → (eqb cost 0 || locked o r) ≡ false → BySingle o r above w l l
   bettered_dear {cost} e f =
-      let both = both_false _ _ f in
+      let both = or_parts _ _ f in
       no_better (λ b h. nothing_better single b (ap one both.1) refl (λ z. eqb-false cost 0 both.0 (e ∙ z)))
 
 -- ---- the taxon with something of the rest of its chain

@@ -1,4 +1,5 @@
 -- The pairs that an outline is written with: one for each taxon, with its price, in the order of the tree's plates.
+use Rattle.std.proofs.lemmas.Bool.{and_parts}
 use Rattle.std.specs.Prelude.{if◌then◌else◌}
 use Prim.Native.Nat.{ℕ, ◌+◌, ◌*◌, ◌<◌}
 use mathlib.Core.Path.{◌≡◌, refl, sym, ap, subst, ◌∙◌}
@@ -10,7 +11,6 @@ use lib.Dec.{eqb}
 use lib.ListN.{length}
 use borrow.Author.Tests.{eqb-true, eqb-false, eq-eqb}
 use Rattle.lists.specs.Lists.{one, total}
-use Rattle.lists.proofs.Bools.{both_true}
 use Rattle.outline.specs.WellFormed.{WellFormed}
 use Rattle.outline.specs.Outline.{size, records, price, plate, is_taxon, IsRecord}
 use Rattle.diversity.specs.Diversity.{clade}
@@ -117,7 +117,7 @@ module _ (o : List ℕ) (formed : WellFormed o) where
             let same = eqb-true r q f in
             sym g ∙ rw (← same, e, eq-eqb (plate o r) (plate o r) refl)
         go false f true g =
-            let (a, d) = both_true (is_taxon o q) (eqb (plate o q) (plate o r)) g in
+            let (a, d) = and_parts (is_taxon o q) (eqb (plate o q) (plate o r)) g in
             let same = formed.plates_differ q r j.low j.high i.low i.high a e (eqb-true (plate o q) (plate o r) d) in
             absurd (eqb-false r q f (sym same))
         go false f false g = refl

@@ -1,4 +1,5 @@
 -- The outline that is read from a written text, with its own prices, is accepted, whatever the order of the records that were written.
+use Rattle.std.proofs.lemmas.Bool.{and_parts, or_parts}
 use Rattle.std.specs.Prelude.{if◌then◌else◌}
 use Prim.Native.Nat.{ℕ, ◌+◌, ◌-◌, ◌%◌, ◌≤◌, ◌<◌}
 use mathlib.Core.Path.{◌≡◌, refl, sym, ap, subst, ◌∙◌}
@@ -10,7 +11,7 @@ use lib.ListN.{length}
 use borrow.Author.Tests.{eqb-true, eqb-false, eq-eqb, ne_eqb, le-ltb, not-false}
 use Rattle.lists.proofs.Bools.{eqb_comm}
 use Rattle.lists.specs.Lists.{one, anywhere, total}
-use Rattle.lists.proofs.Bools.{both_true, both_false, second_false}
+use Rattle.lists.proofs.Bools.{second_false}
 use Rattle.lists.proofs.Walk.{anywhere_none, none_anywhere, nowhere_both}
 use Rattle.refusals.specs.Refusals.{passed, row, row_at}
 use Rattle.refusals.proofs.Refusals.{both_passes, row_passes, row_at_passes}
@@ -145,14 +146,14 @@ module _ (o : List ℕ) (plain : Plain o) where
         × ((not (is_taxon p r) && (not (eqb (price p r) 0) || not (eqb (plate_field p r) 0))) ≡ false)
     unfolding amiss
     links =
-        let one_of = both_false _ _ right in
-        let two_of = both_false _ _ one_of.1 in
+        let one_of = or_parts _ _ right in
+        let two_of = or_parts _ _ one_of.1 in
         (one_of.0, two_of.0, two_of.1)
 
     -- a group has neither price nor plate
     group_free : is_taxon p r ≡ false → (price p r ≡ 0) × (plate_field p r ≡ 0)
     group_free e =
-        let none = both_false _ _ (second_false _ _ links.2 (ap not e)) in
+        let none = or_parts _ _ (second_false _ _ links.2 (ap not e)) in
         (eqb-true _ _ (not-false _ none.0), eqb-true _ _ (not-false _ none.1))
 
     among : is_taxon p r ≡ true → In (plate p r) (plates t)
@@ -172,7 +173,7 @@ module _ (o : List ℕ) (plain : Plain o) where
 
     good_field : bad_field p r ≡ false
     unfolding bad_field wrong
-    good_field = go (is_taxon p r) refl (both_false _ _ fair).0 (λ e. second_false (is_taxon p r) _ (both_false _ _ fair).1 e)
+    good_field = go (is_taxon p r) refl (or_parts _ _ fair).0 (λ e. second_false (is_taxon p r) _ (or_parts _ _ fair).1 e)
       where
         go : (b : Bool) → is_taxon p r ≡ b → ltb 1000000 (branch p r) ≡ false → (is_taxon p r ≡ true → eqb (plate p r) 0 ≡ false)
             → (ltb 1000000 (branch p r) || (ltb 65535 (price p r) || (if b then eqb (plate p r) 0 else not (eqb (plate_field p r) 0)))) ≡ false
@@ -211,10 +212,10 @@ module _ (o : List ℕ) (plain : Plain o) where
       let second_one : one (has_plate p x r) ≡ 1 = rw (e, eq-eqb x x refl) in
       omega (arith, mine, two, first_one, second_one)
   twice r l u q lq uq h false e =
-      let both = both_true (is_taxon p q) (eqb (plate p q) (plate p r)) h in
+      let both = and_parts (is_taxon p q) (eqb (plate p q) (plate p r)) h in
       let same = eqb-true (plate p q) (plate p r) both.1 in
       let zero_field = (group_free r l u e).1 in
-      let some = second_false (is_taxon p q) (eqb (plate p q) 0) (both_false _ _ (fair q lq (omega arith))).1 both.0 in
+      let some = second_false (is_taxon p q) (eqb (plate p q) 0) (or_parts _ _ (fair q lq (omega arith))).1 both.0 in
       eqb-false (plate p q) 0 some (omega arith)
 
   good_plate : (r : ℕ) → 1 ≤ r → r ≤ size p → is_duplicate p r ≡ false

@@ -1,5 +1,5 @@
 use Rattle.std.proofs.Common.{refl, rules}
-use Rattle.std.proofs.lemmas.Result.{err_from_is_err_and}
+use Rattle.refusals.proofs.Refusals.{handed_on}
 use Rattle.reading.proofs.Parts.{part_stops, part_nowhere, part_fails, head_taxon, head_group, group_unread}
 use Rattle.reading.proofs.Parts.{part_unfinished, part_finished, own_room, list_unread, list_fails, list_ends, list_goes}
 use Rattle.reading.proofs.draft.Draft.+part_and_list.Goals as goal
@@ -7,18 +7,15 @@ use Rattle.reading.proofs.draft.Draft.+part_and_list.Goals.{read_part-in-Number,
 
 -- ---- a part
 pub read_part-returns-in_err-before : goal.read_part-returns-in_err-before
-read_part-returns-in_err-before t c =
-    let p = err_from_is_err_and c.from_residual.result c.from_residual.ensures.1 in rw (p.1, p.2) (part_stops _ c.in_err-before.ensures)
+read_part-returns-in_err-before t c = rw (handed_on _ c.from_residual.ensures.1) (part_stops _ c.in_err-before.ensures)
 
 pub read_part-returns-in_err-token : goal.read_part-returns-in_err-token
 read_part-returns-in_err-token t c =
-    let p = err_from_is_err_and c.from_residual-in_err-token.result c.from_residual-in_err-token.ensures.1 in
-    rw (p.1, p.2) (part_nowhere c.in_ok-before.ensures c.in_err-token.ensures)
+    rw (handed_on _ c.from_residual-in_err-token.ensures.1) (part_nowhere c.in_ok-before.ensures c.in_err-token.ensures)
 
 pub read_part-returns-in_err-read_list-in-Open : goal.read_part-returns-in_err-read_list-in-Open
 read_part-returns-in_err-read_list-in-Open t c =
-    let p = err_from_is_err_and c.from_residual-in_err-read_list-in-Open.result c.from_residual-in_err-read_list-in-Open.ensures.1 in
-    rw (p.1, p.2) (group_unread c.in_ok-before.ensures c.in_ok-token.ensures c.in-Open.is c.in_err-read_list-in-Open.ensures)
+    rw (handed_on _ c.from_residual-in_err-read_list-in-Open.ensures.1) (group_unread c.in_ok-before.ensures c.in_ok-token.ensures c.in-Open.is c.in_err-read_list-in-Open.ensures)
 
 pub read_part-returns-in_default : goal.read_part-returns-in_default
 read_part-returns-in_default t c =
@@ -26,8 +23,7 @@ read_part-returns-in_default t c =
 
 pub read_part-returns-in_err-length : goal.read_part-returns-in_err-length
 read_part-returns-in_err-length t c =
-    let p = err_from_is_err_and c.from_residual-in_err-length.result c.from_residual-in_err-length.ensures.1 in
-    rw (p.1, p.2)
+    rw (handed_on _ c.from_residual-in_err-length.ensures.1)
     (elim c.match-token.branch [
       | read_part-in-Number w ↦
           part_unfinished (head_taxon c.args.self.now c.in_ok-before.ensures c.in_ok-token.ensures _ w.in-Number.is)
@@ -54,8 +50,7 @@ read_part-returns t c =
 
 -- ---- a list
 pub read_list-returns-in_err-part : goal.read_list-returns-in_err-part
-read_list-returns-in_err-part t c =
-    let p = err_from_is_err_and c.from_residual.result c.from_residual.ensures.1 in rw (p.1, p.2) (list_unread c.in_err-part.ensures)
+read_list-returns-in_err-part t c = rw (handed_on _ c.from_residual.ensures.1) (list_unread c.in_err-part.ensures)
 
 pub read_list-draft_record-requires : goal.read_list-draft_record-requires
 read_list-draft_record-requires t c = own_room c.in_ok-part.ensures
