@@ -1,6 +1,7 @@
 // Rows of candidates in lent memory, written column by column.
 // The memory and the width go along as two parameters. A struct of both, tried with two of these functions, is no plainer: it spares each
-// call one argument, and each contract, here and in table, has to add that the width and the borrow stay, as each text of a pen does.
+// call one argument, and each contract, here and in table, has to add that the width and the borrow stay, as each text of a pen does. That a
+// cell is within the memory is asked of each: the memory does not know which will be.
 ghost use Rattle.std.specs.Prelude.{◌≡◌, ◌+◌, ◌*◌, ◌<◌, ◌≤◌, length};
 ghost use Rattle.laws.specs.Candidate.{none, better_of};
 ghost use Rattle.cells.specs.Cells.{view, cell};

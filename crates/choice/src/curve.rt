@@ -41,7 +41,8 @@ pub fn write_curve(work: &[u64], width: usize, locks: u64, curve: &mut [u32])
 }
 
 // How many quarters can go with the diversity unchanged: from the right end of the curve leftwards until the diversity drops or no
-// set fits. Document 01 asks for this form, a loop that yields the lowest such column by `break`.
+// set fits. Document 01 asks for this form, a loop that yields the lowest such column by `break`. Both ends are one condition, by `|`, as in
+// outline/src/rules.rt.
 pub fn spare_of(curve: &[u32], count: usize) -> usize
     requires { 2 * count < length curve.now }
     ensures { result ≡ columns_alike (level curve.now (diversity_at curve.now count)) count }

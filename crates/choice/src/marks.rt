@@ -7,7 +7,7 @@ ghost use Rattle.laws.specs.Numbers.{decode};
 use outline::fields::is_taxon;
 
 // Writes the marks of a set, which is a binary number, the last taxon the least significant digit. By number, from the last record:
-// of a slice that was changed through `iter_mut()` under `rev` or `zip` std says nothing. That each record has a mark is asked, as in
+// of a slice that was changed through `iter_mut()` under `rev` or `zip` a proof knows the length alone. That each record has a mark is asked, as in
 // sheet/src/judge.rt: it is a fact of two slices.
 pub fn write_marks(o: &[u8], set: u64, marks: &mut [u8])
     requires { size o.now ≤ length marks.old }

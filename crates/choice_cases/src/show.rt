@@ -180,7 +180,7 @@ impl<'a> Call<'a> {
     }
 }
 
-// Choosing from an outline in each of these ways, at each of these counts. The words say what is chosen.
+// Choosing from an outline in each of these ways, at each of these counts. The words say what is chosen. Label and outline are what tables differ in.
 pub fn chosen(
     rt: &(impl Print + AllocGlobal),
     label: &str,

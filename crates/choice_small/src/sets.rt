@@ -55,7 +55,7 @@ impl Tree {
         }
     }
 
-    // Whether a set has taxon r.
+    // Whether a set has taxon r, by its number, as all that goes over the records.
     pub fn has(&self, set: u32, r: usize) -> bool
         requires { (1 ≤ r) × (r ≤ self.now.outline.len) }
     {

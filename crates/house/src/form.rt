@@ -14,7 +14,7 @@ use records::Record;
 use refusals::Refusal;
 use text::Pen;
 
-// The link to a chain whose records get the numbers from k on, up to `end`: 0 where there are none.
+// The link to a chain whose records get the numbers from k on, up to `end`: 0 where there are none, as a record has it.
 fn link_to(k: usize, end: usize) -> usize
     ensures { result ≡ (if eqb k end then 0 else k) }
 {

@@ -16,8 +16,8 @@ pub const MOST_JUDGED: usize = 2052;
 // No listing is longer.
 pub const MOST_PRINTED: usize = 16384;
 
-// What is lent for a choice: a mark for each record that an outline may have, two numbers for each column up to a page count of 511,
-// and the work that these records and columns take.
+// What is lent for a choice: a mark for each record that an outline may have, two numbers for each column up to a page count of 511, and as
+// much work as document 01 gives the program; a call that takes more is refused.
 const MARKS: usize = 127;
 
 const CURVE: usize = 1024;

@@ -1,5 +1,5 @@
-// Walks through the numbers 1 to n, with a test of the caller's. They are `for` loops: with `find` and `filter` the check asks that the
-// test can be called at any number, and here it is required to be at 1 to n alone.
+// Walks through the numbers 1 to n, with a test of the caller's. They are `for` loops: with `find` and `filter` it
+// is to be shown that the test can be called at each number that the range gives, and no proof of that was found from 1 to n alone.
 ghost use Rattle.std.specs.Prelude.{ℕ, Bool, ◌≡◌, ◌≤◌};
 ghost use Rattle.lists.specs.Lists.{from, nonzero, one, total};
 ghost use Rattle.lists.specs.Lists.{lowest as lowest_of};

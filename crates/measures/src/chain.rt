@@ -1,4 +1,5 @@
-// The recursion over the links: what the chosen taxa of a chain come to.
+// The recursion over the links: what the chosen taxa of a chain come to. Outline, record, marks and the number of all that are chosen go
+// side by side: in a struct of references a clause would say `set.now.marks.now` for `marks.now`.
 ghost use Rattle.std.specs.Prelude.{if◌then◌else◌, ◌≡◌, ◌-◌, ◌&&◌};
 ghost use Rattle.lists.specs.Lists.{positive};
 ghost use Rattle.outline.specs.Outline.{branch, price, IsRecord};

@@ -23,7 +23,7 @@ pub fn mark_locked(o: &[u8], marks: &mut [u8])
     }
 }
 
-// Their marks.
+// Their marks, in an array that has room because there are at most 127 records.
 fn lock_marks(o: &[u8]) -> [u8; MOST_RECORDS]
     requires { size o.now ≤ most_records }
     ensures { result ≡ over (locked_set o.now) blank }

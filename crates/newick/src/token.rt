@@ -22,7 +22,7 @@ pub enum Token {
     Other,
 }
 
-// A sign that is a token by itself; a digit and a blank are none.
+// The token of a sign. A digit and a blank are no tokens by themselves and give `Other`, which no tree contains; `first_token` asks for neither.
 impl From<Sign> for Token {
     ghost use Rattle.newick.specs.Inner.{token_of};
 

@@ -66,7 +66,7 @@ pub fn plate_field_of(o: &[u8], r: usize) -> u32
     long_at(o, 16 * (r - 1) + 12)
 }
 
-// The plate's number.
+// The plate's number, by `%` as the definition has it.
 pub fn plate_of(o: &[u8], r: usize) -> u32
     requires { IsRecord o.now r }
     ensures { result ≡ plate o.now r }

@@ -43,7 +43,8 @@ fn count_link(counts: &mut [u16; NUMBERS], link: usize)
     }
 }
 
-// How many link fields hold each record number: one pass for all records.
+// How many link fields hold each record number: one pass for all records. Nothing is allocated: the counts are an array by record number,
+// which has room because rows 2 and 3 have passed.
 pub fn count_links(o: &[u8]) -> [u16; NUMBERS]
     requires { size o.now ≤ most_records }
     ensures { Tally o.now result }

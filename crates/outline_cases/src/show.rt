@@ -14,7 +14,7 @@ pub fn check(rt: &impl Print, label: &str, o: &[u8]) -> io::Result<()> {
     }
 }
 
-// The check of tree A with another record r.
+// The check of tree A with another record r, a number under the bound of samples/src/outlines.rt.
 pub fn changed(rt: &impl Print, label: &str, r: usize, fields: [u32; 5]) -> io::Result<()>
     requires { (1 ≤ r) × (r ≤ 5) }
 {

@@ -1,5 +1,6 @@
 // A place in a text that is gone through once, with a count of open lists. No call is nested here, so that a text of any depth takes
-// no more room than another, and every token is taken once.
+// no more room than another, and every token is taken once. It goes on in loops by the place, here and in scan.rt: how many tokens are passed is
+// known only when they are read, so that no range or iterator counts them.
 ghost use Rattle.std.specs.Prelude.{◌+◌, ◌<◌, ◌^◌, length};
 
 use super::length::follow;

@@ -2,7 +2,7 @@
 ghost use Rattle.std.specs.Prelude.{◌≡◌};
 ghost use Rattle.refusals.specs.Refusals.{refusal};
 
-// The rows of the table. A number is the place: the lowest record at fault.
+// The rows of the table. A number is the place: the lowest record at fault, and 0 where there are fewer marks than records.
 #[derive(Clone, Copy, Debug, PartialEq, Eq)]
 pub enum Refusal {
     UnknownWay,

@@ -1,4 +1,5 @@
-// What each record adds to the quarters and to the diversity of the taxa before it. Two short loops: one loop that took what is added,
+// What each record adds to the quarters and to the diversity of the taxa before it. Two short loops, by number, since a turn reads at a record's and
+// adds at a taxon's place: one loop that took what is added,
 // and where, from closures would need two contracts at each caller, longer than the loop.
 ghost use Rattle.diversity.specs.Diversity.{diversity, cost};
 ghost use Rattle.measures.specs.Measures.{Measurable};
@@ -9,7 +10,7 @@ use super::outsides::outsides_of;
 use outline::fields::{branch_of, next_of, price_of};
 use outline::limits::NUMBERS;
 
-// Both, at the place of each record's mark.
+// Both, at the place of each record's mark. Two arrays and none of pairs: each has laws of its own.
 #[derive(Drop)]
 pub struct Additions {
     pub quarters: [u32; NUMBERS],

@@ -1,4 +1,4 @@
-// A choice's marks, handed on as they are.
+// A choice's marks, handed on as they are. Label, outline and count are what a case is, and go into the struct of a call below.
 use super::show::Call;
 use choice::choose;
 use samples::outlines::{comb, tree_a, tree_a_with_headings};

@@ -3,7 +3,7 @@ use super::show::Call;
 use samples::outlines::{star, tree_a};
 use std::io;
 
-// Tree A with these marks, and a sheet of so many numbers.
+// Tree A with these marks, and a sheet of so many numbers. What is handed on here and below is what cases differ in; the call's struct has the rest.
 fn tree(rt: &(impl Print + AllocGlobal), way: u32, numbers: usize, marks: &[u8]) -> io::Result<()> {
     Call::new(tree_a().bytes(), way, numbers, marks).case(rt, "tree A")
 }

@@ -4,7 +4,8 @@ use samples::headings::{deep_pair, free_pair, interleaved, two_families};
 use samples::outlines::{one_record, star, tree_a, tree_a_with_headings};
 use std::io;
 
-// Sets of an outline in which records 3, 4 and 5 are the taxa. Marks past those of the records may be anything.
+// Sets of an outline in which records 3, 4 and 5 are the taxa. Marks past those of the records may be anything. Label and outline are what cases
+// differ in.
 fn sets(rt: &(impl Print + AllocGlobal), label: &str, o: &[u8]) -> io::Result<()> {
     Call::new(o, 0, 30, &[0, 0, 1, 0, 1]).case(rt, label)?;
     Call::new(o, 1, 30, &[0, 0, 1, 0, 1, 1, 2, 255]).case(rt, label)?;

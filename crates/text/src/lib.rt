@@ -8,7 +8,7 @@ ghost use Rattle.text.specs.Written.{LongEnough, Put};
 
 use itoa::Buffer;
 
-// The place in a buffer where the next text goes. It is made by a literal: a constructor would need three clauses, where it is made seven times.
+// The place in a buffer where the next text goes. It is made by a literal: a constructor would need three clauses, where it is made eight times.
 #[derive(Drop)]
 pub struct Pen<'a, T> {
     pub buffer: &'a mut [T],

@@ -69,7 +69,7 @@ fn record_order(rt: &(impl Print + AllocGlobal)) -> io::Result<()> {
     case(rt, "records 3 and 4 locked, level by level", two.bytes())
 }
 
-// Tree A with its first taxon, record 3, locked and with another record r.
+// Tree A with its first taxon, record 3, locked and with another record r, a number under the bound of samples/src/outlines.rt.
 fn spoiled(
     rt: &(impl Print + AllocGlobal),
     label: &str,
