@@ -12,6 +12,3 @@ overflow_cast-result c =
     let found : c.unwrap_or.result ≡ found_at c.args.outline.now c.args.plate =
     c.unwrap_or.ensures ∙ ap (λ v. unwrap_or v 0) c.find_record.ensures ∙ nonzero_value _ in
     record { fits = omega (arith, found, found_at_most c.args.outline.now c.args.plate) }
-
-pub returns : goal.returns
-returns c = c.unwrap_or.ensures ∙ ap (λ v. unwrap_or v 0) c.find_record.ensures ∙ nonzero_value _

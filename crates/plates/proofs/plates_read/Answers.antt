@@ -15,5 +15,5 @@ overflow_cast-answer c =
     record { fits = omega arith }
 
 -- a place fits 32 bits
-pub refuse-requires : goal.refuse-requires
-refuse-requires c = record { room = omega arith; placed = placed_by c.in-Err.ensures.answered.told_reply (reply_place_most _) }
+pub refuse-requires-clause-placed : goal.refuse-requires-clause-placed
+refuse-requires-clause-placed c = placed_by c.in-Err.ensures.answered.told_reply (reply_place_most _)

@@ -22,5 +22,5 @@ overflow_cast-answer-in-Ok c =
     record { fits = omega arith }
 
 -- a place fits 32 bits
-pub refuse-requires : goal.refuse-requires
-refuse-requires c = record { room = omega arith; placed = placed_by c.in-Err.ensures.told_reply ((reply_few _).0) }
+pub refuse-requires-clause-placed : goal.refuse-requires-clause-placed
+refuse-requires-clause-placed c = placed_by c.in-Err.ensures.told_reply ((reply_few _).0)

@@ -2,12 +2,9 @@
 use Rattle.std.proofs.Common.{ap, ◌∙◌, arith}
 use Rattle.lists.specs.Lists.{one}
 use Rattle.lists.proofs.Bools.{byte_one, one_le}
-use Rattle.lists.proofs.Walk.{summing_starts, summing_goes, summing_ends}
+use Rattle.lists.proofs.Walk.{summing_goes, summing_ends}
 use Rattle.lists.proofs.walks.count.Goals as goal
 use Rattle.lists.proofs.walks.count.Goals.{else-loop-r-test, then-loop-r-test+else-r-n}
-
-pub loop-r-init : goal.loop-r-init
-loop-r-init g c = record { few = omega arith; counted = λ holds d. summing_starts _ _ }
 
 pub loop-r-preserved : goal.loop-r-preserved
 loop-r-preserved g c =

@@ -1,8 +1,5 @@
 -- `measures::chain::measure_clade` meets its contract: the record counts where a taxon at or below it is chosen.
-use Rattle.std.proofs.Common.{◌+◌, ap, ◌∙◌}
-use Rattle.lists.specs.Lists.{one}
-use Rattle.lists.proofs.Bools.{byte_one}
-use Rattle.measures.proofs.Parts.{taxa_fit, cost_fits, diversity_fits, clade_measured}
+use Rattle.measures.proofs.Parts.{taxa_fit, cost_fits, diversity_fits}
 use Rattle.measures.proofs.chain.measure_clade.Goals as goal
 
 pub overflow_add-below : goal.overflow_add-below
@@ -13,8 +10,3 @@ overflow_add-result c = record { fits = cost_fits c.requires _ c.price_counted.e
 
 pub overflow_add-result-2 : goal.overflow_add-result-2
 overflow_add-result-2 c = record { fits = diversity_fits c.requires _ c.branch_counted.ensures }
-
-pub returns : goal.returns
-returns c =
-    let own = byte_one c.is_chosen-own.result ∙ ap one c.is_chosen-own.ensures in
-    clade_measured c.requires (ap (λ k. c.args.members.taxa + k) own) c.price_counted.ensures c.branch_counted.ensures

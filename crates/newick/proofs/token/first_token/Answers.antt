@@ -1,12 +1,6 @@
 -- `newick::token::first_token`: a blank leaves the tokens as they are, and each way out meets the first of them.
-use Rattle.newick.proofs.Tokens.{skipping_begins, skipping_goes, skipping_number, skipping_meets, skipping_ends}
+use Rattle.newick.proofs.Tokens.{skipping_goes, skipping_meets, skipping_ends}
 use Rattle.newick.proofs.token.first_token.Goals as goal
-
-pub first_number-requires : goal.first_number-requires
-first_number-requires c = skipping_begins c.loop-i.invariant c.loop-i-test.true c.in-Digit.ensures
-
-pub returns-in-Digit : goal.returns-in-Digit
-returns-in-Digit c = skipping_number c.loop-i.invariant c.loop-i-test.true c.first_number.ensures
 
 pub loop-i-preserved : goal.loop-i-preserved
 loop-i-preserved c = skipping_goes c.loop-i.invariant c.loop-i-test.true c.in-Blank.ensures

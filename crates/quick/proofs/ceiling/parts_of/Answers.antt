@@ -16,10 +16,6 @@ loop-r-preserved c =
       part.sums_are,
     )
 
-pub returns : goal.returns
-unfolding records
-returns c = summing_ends _ _ c.loop-r.invariant.0 c.loop-r-test.false
-
 -- after the last record
 pub returns-2 : goal.returns-2
 unfolding records

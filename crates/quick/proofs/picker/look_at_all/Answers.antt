@@ -8,9 +8,6 @@ loop-r-init c = choosing_starts c.requires.1
 pub loop-r-preserved : goal.loop-r-preserved
 loop-r-preserved c = choosing_goes c.loop-r.invariant c.loop-r-test.true c.look_at-hand.ensures
 
-pub returns : goal.returns
-returns c = choosing_ends c.loop-r.invariant (omega (arith, c.loop-r-test.false))
-
 -- after the last record
 pub returns-2 : goal.returns-2
 returns-2 c = choosing_ends (choosing_goes c.loop-r.invariant c.loop-r-test.true c.look_at-hand.ensures) (omega arith)

@@ -10,9 +10,6 @@ loop-r-init c = handing_starts of_root
 pub loop-r-preserved : goal.loop-r-preserved
 loop-r-preserved c = climbing_goes c.requires c.loop-r.invariant c.loop-r-test.true c.first_of-first.ensures c.next_of-next.ensures
 
-pub returns : goal.returns
-returns c = climbing_ends c.requires c.loop-r.invariant c.loop-r-test.false
-
 -- after the last record
 pub returns-2 : goal.returns-2
 returns-2 c =

@@ -5,9 +5,3 @@ use Rattle.reading.proofs.reader.read.Goals as goal
 
 pub returns-then-text-gt-MOST_BYTES-clause-answered : goal.returns-then-text-gt-MOST_BYTES-clause-answered
 returns-then-text-gt-MOST_BYTES-clause-answered c = long_answered _ _ _ (omega arith)
-
-pub returns-then-text-gt-MOST_BYTES-clause-numbers : goal.returns-then-text-gt-MOST_BYTES-clause-numbers
-returns-then-text-gt-MOST_BYTES-clause-numbers c = record { small = λ i. omega (arith, c.type_inv.pairs i) }
-
-pub returns-clause-numbers : goal.returns-clause-numbers
-returns-clause-numbers c = record { small = λ i. omega (arith, c.type_inv.pairs i) }

@@ -1,5 +1,4 @@
-use Rattle.std.proofs.Common.{arith}
-use Rattle.reading.proofs.Scanning.{scan_starts, outermost}
+use Rattle.reading.proofs.Scanning.{scan_starts}
 use Rattle.reading.proofs.scan.past_part.Goals as goal
 
 pub returns-in_err-place : goal.returns-in_err-place
@@ -7,6 +6,3 @@ returns-in_err-place c = rw c.from_residual.ensures (c.in_err-place.ensures.take
 
 pub loop-place-init : goal.loop-place-init
 loop-place-init c = c.in_ok-place.ensures.taken _ (scan_starts _)
-
-pub returns : goal.returns
-returns c = outermost c.loop-place.invariant (omega arith)

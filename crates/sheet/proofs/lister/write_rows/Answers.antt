@@ -22,11 +22,6 @@ put_row-requires c =
 pub loop-r-preserved : goal.loop-r-preserved
 loop-r-preserved c = walking_goes c.loop-r.invariant (omega arith) c.put_row.ensures
 
-pub returns : goal.returns
-returns c =
-    let written = walking_ends c.loop-r.invariant (omega arith) in
-    rw (← rows_in _ _ _ c.args.way c.of-adds.ensures) (put_over written refl (search rules))
-
 pub returns-2 : goal.returns-2
 returns-2 c =
     let written = walking_ends (walking_goes c.loop-r.invariant (omega arith) c.put_row.ensures) (omega arith) in

@@ -7,9 +7,6 @@ loop-r-preserved c =
     onwards_goes _ c.loop-r.invariant c.requires c.loop-r-test.true c.first_of-first.ensures c.next_of-next.ensures c.place_of.ensures
     c.min-around.ensures c.min.ensures c.min-in-loop-r.ensures
 
-pub returns : goal.returns
-returns c = onwards_ends _ c.loop-r.invariant c.requires.base.formed.linked c.loop-r-test.false
-
 -- after the last record
 pub returns-2 : goal.returns-2
 returns-2 c =

@@ -15,9 +15,6 @@ loop-r-preserved c =
     adding_goes _ _ _ c.loop-r.invariant i.high since c.branch_of.ensures
     (omega (arith, c.branch_of.ensures, (c.requires.base.formed.ranged _ i.low i.high).branch_most))
 
-pub returns : goal.returns
-returns c = diversity_end _ c.requires.base.formed.size_most c.loop-r.invariant c.loop-r-test.false
-
 -- after the last record
 pub returns-2 : goal.returns-2
 returns-2 c =

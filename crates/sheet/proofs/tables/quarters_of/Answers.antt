@@ -10,9 +10,6 @@ loop-r-preserved c =
     adding_goes _ _ _ c.loop-r.invariant c.loop-r-test.true c.opened_at-at.ensures c.price_of.ensures
     (omega (arith, c.price_of.ensures, (c.requires.base.formed.ranged _ c.loop-r.invariant.low c.loop-r-test.true).price_most))
 
-pub returns : goal.returns
-returns c = quarters_end c.requires.base.formed.size_most c.loop-r.invariant c.loop-r-test.false
-
 -- after the last record
 pub returns-2 : goal.returns-2
 returns-2 c =

@@ -1,13 +1,9 @@
 -- `view::buyer::view_buyer` meets its contract: a refusal of the table, or the cleared records.
-use Rattle.refusals.proofs.Refusals.{handed_on, passed_zero}
+use Rattle.refusals.proofs.Refusals.{handed_on}
 use Rattle.view.specs.Answer.{judged}
 use Rattle.view.specs.View.{buyer_view}
-use Rattle.view.proofs.Answers.{view_suffices, shown_answered, refused_answered}
+use Rattle.view.proofs.Answers.{shown_answered, refused_answered}
 use Rattle.view.proofs.buyer.view_buyer.Goals as goal
-
-pub write_cleared-requires : goal.write_cleared-requires
-unfolding judged
-write_cleared-requires c = view_suffices _ (passed_zero c.in_ok-check_with_room.ensures)
 
 pub returns-in_err-check_with_room : goal.returns-in_err-check_with_room
 unfolding judged

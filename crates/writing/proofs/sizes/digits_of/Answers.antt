@@ -1,12 +1,9 @@
 -- `writing::sizes::digits_of` meets its contract: the logarithm tells how many digits there are.
-use Rattle.std.proofs.Common.{arith, ap, ◌+◌, ◌∙◌}
-use Rattle.writing.proofs.OwnBytes.{digits_told, digits_few}
+use Rattle.std.proofs.Common.{ap, ◌+◌, ◌∙◌}
+use Rattle.writing.proofs.OwnBytes.{digits_told}
 use Rattle.writing.proofs.sizes.digits_of.Goals as goal
 
 pub returns-clause-value : goal.returns-clause-value
 returns-clause-value c =
     let log = c.checked_ilog10.ensures in
     ap (λ k. k + 1) c.unwrap_or.ensures ∙ digits_told c.args.n c.checked_ilog10.result c.ranges.n.fits log.none log.power_le log.next_power_gt
-
-pub returns-clause-upper_bound : goal.returns-clause-upper_bound
-returns-clause-upper_bound c = omega (arith, returns-clause-value c, digits_few c.args.n c.ranges.n.fits)

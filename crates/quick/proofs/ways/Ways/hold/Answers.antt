@@ -5,11 +5,6 @@ use Rattle.quick.proofs.ways.Ways.hold.Goals as goal
 pub loop-at-init : goal.loop-at-init
 loop-at-init c = going_starts
 
-pub loop-at-smaller : goal.loop-at-smaller
-loop-at-smaller c =
-    let g = c.loop-at.invariant in
-    rw g.kept (c.requires.earlier _ (omega (arith, c.loop-at-test.true)) g.below)
-
 pub returns-then-self-at : goal.returns-then-self-at
 returns-then-self-at c =
     let low : 1 ≤ c.loop-at.at = omega (arith, c.loop-at-test.true) in

@@ -27,11 +27,6 @@ loop-r-preserved c =
       | else-is_chosen w ↦ rw w.ways-is (gathering_passes _ h (sym c.is_chosen.ensures ∙ w.if-is_chosen.false), ps)
     ]
 
-pub returns : goal.returns
-returns c =
-    let (h, ps) = c.loop-r.invariant in
-    record { base = c.requires; parents_are = ps; held_are = gathering_ends h (omega (arith, c.loop-r-test.false, c.requires.is_set.whole)) }
-
 -- after the last record
 pub returns-after-is_chosen : goal.returns-after-is_chosen
 returns-after-is_chosen c =

@@ -1,9 +1,6 @@
 use Rattle.std.proofs.Common.{refl}
-use Rattle.reading.proofs.Scanning.{descending_starts, descending_ends, descending_fails, descending_goes, descending_stops, descending_taken}
+use Rattle.reading.proofs.Scanning.{descending_ends, descending_fails, descending_goes, descending_stops, descending_taken}
 use Rattle.reading.proofs.place.Place.past_taxon.Goals as goal
-
-pub loop-token-init : goal.loop-token-init
-loop-token-init c = descending_starts _ _
 
 pub loop-token-preserved : goal.loop-token-preserved
 loop-token-preserved c = descending_goes c.loop-token.invariant c.in_ok-token.ensures c.in-Open.is
