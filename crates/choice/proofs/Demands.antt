@@ -80,7 +80,7 @@ module _ (c : Call) {r : Reply Figures} {marks curve work : List ℕ} (x : Answe
 
     -- the locked taxa fit by themselves
     fit : cost c.outline (locked_set c.outline) ≤ c.count
-    fit = (selected_solvable c selected_row).locked_fit
+    fit = (selected_solvable c selected_row).searchable.locked_fit
 
     marked_is : marked_set c marks ≡ best_set c
     unfolding marks_after over
@@ -102,7 +102,7 @@ module _ (c : Call) {r : Reply Figures} {marks curve work : List ℕ} (x : Answe
 
     -- and in the paper's words: the length of the smallest subtree that connects the marked taxa, rooted with the root
     pub demand_2_subtree : SubtreeLength c.outline (Ends c.outline c.way (marked_set c marks)) r.figures.diversity
-    demand_2_subtree = rw demand_2.diversity_true (diversity_subtree _ (selected_solvable c selected_row).formed.linked _ _)
+    demand_2_subtree = rw demand_2.diversity_true (diversity_subtree _ (selected_solvable c selected_row).searchable.formed.linked _ _)
 
     -- and in the request's words: the marked taxa's prices, and the price of each group that has one of them below it
     pub demand_2_headings : r.figures.cost ≡ prices_chosen c.outline (marked_set c marks) + headings_opened c.outline (marked_set c marks)
@@ -171,3 +171,8 @@ module _ (c : Call) {r : Reply Figures} {marks curve work : List ℕ} (x : Answe
     pub free_marked : (r : ℕ) → 1 ≤ r → r ≤ size c.outline → is_taxon c.outline r ≡ true → Free c.outline r
         → chosen (marked_set c marks) r ≡ true
     free_marked r l u t e = rw marked_is (free_chosen c.outline c.way c.count fit r l u t e)
+
+-- so a call is told the best diversity of the exhaustive search
+pub best_told : (c : Call) {r : Reply Figures} {marks curve work : List ℕ} → Answered c r marks curve work → r.number ≡ 0
+    → r.figures.diversity ≡ best_diversity c.outline c.way c.count
+best_told c x z = let f = demand_3 c x z in f.diversity_is_shown ∙ (f.columns c.count (omega arith)).searched.0

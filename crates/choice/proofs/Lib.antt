@@ -4,5 +4,6 @@ pub mod Bounds
 pub mod Columns
 pub mod Demands
 pub mod Digits
+pub mod Rows
 pub mod Shown
 pub mod Solving

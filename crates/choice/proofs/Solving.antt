@@ -1,7 +1,7 @@
 -- A filled table read out: its top row is the curve, and its last column the best set.
 use Rattle.std.specs.Prelude.{if◌then◌else◌}
 use Prim.Native.Nat.{ℕ, zero, suc, ◌+◌, ◌*◌, ◌-◌, ◌/◌, ◌%◌, ◌≤◌, ◌<◌}
-use mathlib.Core.Path.{◌≡◌, ap, ◌∙◌}
+use mathlib.Core.Path.{◌≡◌, sym, ap, ◌∙◌}
 use mathlib.Core.Bool.{Bool, true, false, ◌&&◌}
 use mathlib.Core.List.{List}
 use native.Mathlib.Omega.{arith}
@@ -19,7 +19,7 @@ use Rattle.laws.specs.Candidate.{Value, none, some}
 use Rattle.laws.specs.Locks.{locks}
 use Rattle.laws.specs.Numbers.{decode, worth}
 use Rattle.laws.proofs.Sums.{total_ext, total_most}
-use Rattle.laws.proofs.Optimum.{search_ends, optimum_set, blank_exactly}
+use Rattle.laws.proofs.Optimum.{search_ends, optimum_set, shown_diversity, blank_exactly}
 use Rattle.laws.proofs.Numbers.{decode_code}
 use Rattle.rows.specs.Rows.{top_row}
 use Rattle.rows.proofs.TopRow.{Tells, top_row_lem}
@@ -27,7 +27,7 @@ use Rattle.cells.specs.Cells.{unit, lift, seen, view, diversity_of, cost_of, cod
 use Rattle.table.specs.Table.{Filled}
 use Rattle.cells.specs.declared.candidate.Candidate.{Candidate}
 use Rattle.choice.specs.Answer.{Call, Figures, most_count, best_set, figures, columns, curve_of, diversity_at, cost_at}
-use Rattle.choice.specs.Inner.{top_diversity, top_cost, level, Solvable, Solved}
+use Rattle.choice.specs.Inner.{top_diversity, top_cost, level, Searchable, Solvable, Solved}
 use Rattle.choice.proofs.Columns.{columns_long, column_diversity, column_cost, columns_ext, alike_ext}
 use Rattle.choice.proofs.Shown.{complete_is, shown_by}
 use Rattle.outline.specs.Rules.{most_records}
@@ -110,10 +110,22 @@ selected d k t l = record { diversity = d; cost = k; taxa = t; spare = l }
 selected_path : {d e k m t u l n : ℕ} → d ≡ e → k ≡ m → t ≡ u → l ≡ n → selected d k t l ≡ selected e m u n
 selected_path p q r s = rw (p, q, r, s)
 
+-- the last column's candidate is the best set, with what it is worth
+module _ {o : List ℕ} {way count : ℕ} {work table : List ℕ} (s : Searchable o count work) (filled : Filled o way (count + 1) table)
+    (best : Candidate) (is_best : view best ≡ cell table (2 * (count + 1) + count)) where
+  best_worth : view best ≡ some (worth o way (optimum o way count))
+  best_worth =
+      is_best ∙ filled.row count (omega arith)
+      ∙ complete_is o way (top_row_lem o s.formed.linked way count) (search_ends o way count s.locked_fit)
+
+  pub best_shown : {d : ℕ} → d ≡ diversity_of (view best) → d ≡ best_diversity o way count
+  unfolding diversity_of worth
+  best_shown e = e ∙ ap diversity_of best_worth ∙ sym (shown_diversity o way count s.locked_fit)
+
 module _ (c : Call) (s : Solvable c) (table : List ℕ) (filled : Filled c.outline c.way (c.count + 1) table) where
   -- the top row is the curve
   ruling : (b : ℕ) → Tells c.outline c.way (exhaustive_search c.outline c.way b) (top_row c.outline c.way b)
-  ruling b = top_row_lem c.outline s.formed.linked c.way b
+  ruling b = top_row_lem c.outline s.searchable.formed.linked c.way b
 
   top_column : (b : ℕ) → b < 0 + (c.count + 1)
       → (top_diversity table (c.count + 1) (locks c.outline) b ≡ best_diversity c.outline c.way b)
@@ -127,13 +139,12 @@ module _ (c : Call) (s : Solvable c) (table : List ℕ) (filled : Filled c.outli
   top_curve = columns_ext _ _ _ _ 0 (c.count + 1) top_column
 
   module _ (best : Candidate) (is_best : view best ≡ cell table (2 * (c.count + 1) + c.count)) where
-    -- the last column's candidate is the best set, with what it is worth
     best_is : view best ≡ some (worth c.outline c.way (best_set c))
-    best_is = is_best ∙ filled.row c.count (omega arith) ∙ complete_is c.outline c.way (ruling c.count) (search_ends c.outline c.way c.count s.locked_fit)
+    best_is = best_worth s.searchable filled best is_best
 
     best_marks : decode c.outline best.set ≡ best_set c
     unfolding view worth
-    best_marks = ap (decode c.outline) (set_of_lem best.score best.set best_is) ∙ decode_code (optimum_set c.outline c.way c.count s.locked_fit)
+    best_marks = ap (decode c.outline) (set_of_lem best.score best.set best_is) ∙ decode_code (optimum_set c.outline c.way c.count s.searchable.locked_fit)
 
     -- what is told and written
     pub solved : {marks curve work : List ℕ} {locked d k taxa left : ℕ} → marks ≡ over (decode c.outline best.set) c.marks
@@ -151,8 +162,8 @@ module _ (c : Call) (s : Solvable c) (table : List ℕ) (filled : Filled c.outli
         record {
           told_figures =
               selected_path (d ∙ ap diversity_of best_is) (k ∙ ap cost_of best_is)
-              (t ∙ ap (chosen_taxa c.outline) marked ∙ taxa_over c.outline (best_set c) c.marks (optimum_set _ _ _ s.locked_fit))
-              (l ∙ ap (λ x. columns_alike (level x (diversity_at x c.count)) c.count) drawn ∙ curve_spare c c.curve s.low);
+              (t ∙ ap (chosen_taxa c.outline) marked ∙ taxa_over c.outline (best_set c) c.marks (optimum_set _ _ _ s.searchable.locked_fit))
+              (l ∙ ap (λ x. columns_alike (level x (diversity_at x c.count)) c.count) drawn ∙ curve_spare c c.curve s.searchable.low);
           marks_written = marked;
           curve_written = drawn;
           work_cleared = w;

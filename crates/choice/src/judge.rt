@@ -1,8 +1,10 @@
-// The table of refusals, whole: rows 1 to 9 in their order, and row 12.
-ghost use Rattle.std.specs.Prelude.{◌≡◌};
+// The table of refusals, whole: rows 1 to 9 in their order, and row 12; in two parts, so that a crate above can have a row of its own between
+// them.
+ghost use Rattle.std.specs.Prelude.{◌≡◌, ◌≤◌};
 ghost use Rattle.refusals.specs.Refusals.{told};
-ghost use Rattle.choice.specs.Answer.{call, work_taken, unknown, too_short, judged};
-ghost use Rattle.choice.specs.Inner.{WithinLimits};
+ghost use Rattle.outline.specs.WellFormed.{WellFormed};
+ghost use Rattle.choice.specs.Answer.{call, most_count, work_taken, unknown, too_short, judged};
+ghost use Rattle.choice.specs.Inner.{WithinLimits, first_rows, last_rows};
 
 use measures::locked_cost;
 use outline::checker::{check_records, check_size};
@@ -36,8 +38,42 @@ fn is_short(outline: &[u8], count: u32, marks: &[u8], curve: &[u32], work: &[u64
         || work.len() < work_taken(outline, count)
 }
 
-// The first row that holds. The way stays a number down to the table: C hands it over, row 1 answers any that is none, and the
-// definitions count by it; an enum would ask more of who calls `measure` and `fill`, which count any other number as unrooted.
+// Rows 1 to 8: the way, the outline and the page count. The way stays a number down to the table: C hands it over, row 1 answers any that is
+// none, and the definitions count by it; an enum would ask more of who calls `measure` and `fill`, which count any other number as unrooted.
+pub fn judge_outline(outline: &[u8], count: u32, way: u32) -> Result<(), Refusal>
+    ensures { told result ≡ first_rows outline.now count way }
+{
+    if is_unknown(way) {
+        return Err(Refusal::UnknownWay);
+    }
+    check_size(outline)?;
+    if count > MOST_COUNT {
+        return Err(Refusal::CountTooLarge);
+    }
+    check_records(outline)
+}
+
+// Rows 9 and 12: the lent buffers, and whether the locked taxa fit.
+pub fn judge_space(
+    outline: &[u8],
+    count: u32,
+    marks: &[u8],
+    curve: &[u32],
+    work: &[u64],
+) -> Result<(), Refusal>
+    requires { WellFormed outline.now × (count ≤ most_count) }
+    ensures { told result ≡ last_rows outline.now count marks.now curve.now work.now }
+{
+    if is_short(outline, count, marks, curve, work) {
+        return Err(Refusal::BufferTooShort);
+    }
+    if count < locked_cost(outline) {
+        return Err(Refusal::LockedTooDear);
+    }
+    Ok(())
+}
+
+// The first row that holds.
 pub fn judge(
     outline: &[u8],
     count: u32,
@@ -49,19 +85,6 @@ pub fn judge(
     ensures { told result ≡ judged
         (call outline.now count way marks.now curve.now work.now) }
 {
-    if is_unknown(way) {
-        return Err(Refusal::UnknownWay);
-    }
-    check_size(outline)?;
-    if count > MOST_COUNT {
-        return Err(Refusal::CountTooLarge);
-    }
-    check_records(outline)?;
-    if is_short(outline, count, marks, curve, work) {
-        return Err(Refusal::BufferTooShort);
-    }
-    if count < locked_cost(outline) {
-        return Err(Refusal::LockedTooDear);
-    }
-    Ok(())
+    judge_outline(outline, count, way)?;
+    judge_space(outline, count, marks, curve, work)
 }

@@ -1,5 +1,6 @@
 -- Laws of the definitions, for the crates above.
 pub mod Accepted
+pub mod Alike
 pub mod Best
 pub mod ByTree
 pub mod Chains
@@ -20,6 +21,7 @@ pub mod Order
 pub mod Paths
 pub mod Prefixes
 pub mod SetOrder
+pub mod Searches
 pub mod Spare
 pub mod Subtrees
 pub mod Sums

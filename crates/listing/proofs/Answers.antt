@@ -135,7 +135,7 @@ not_refused c (Err e) x passes = absurd (granted_apart sheets.no_figures (sheets
 -- ---- a selection
 module _ (c : Call) (e : is_selected c ≡ true) where
   best : IsSet c.outline (best_set c)
-  best = optimum_set c.outline c.way c.count (selected_solvable c e).locked_fit
+  best = optimum_set c.outline c.way c.count (selected_solvable c e).searchable.locked_fit
 
   -- the total's numbers are the first line's cost and diversity
   pub total_is_first : total_line c.outline c.way (best_set c) ≡ labelled total_word ((figures c).cost ∷ (figures c).diversity ∷ [])
@@ -151,7 +151,7 @@ module _ (c : Call) (e : is_selected c ≡ true) where
     pub selection_listed : Listed c.outline c.way marks
     selection_listed =
         set_listed (sheets.call c.outline c.way marks (replicate 192 0)) (selected_accepted c e) (way_known c e) (rw set_marked best)
-        (rw set_marked (omega (arith, set_few c.outline (best_set c) best, (selected_solvable c e).formed.taxa_most, length-replicate {A = ℕ} 192 0)))
+        (rw set_marked (omega (arith, set_few c.outline (best_set c) best, (selected_solvable c e).searchable.formed.taxa_most, length-replicate {A = ℕ} 192 0)))
 
 module _ (c : Call) (f : Figures) (e : told (Ok f) ≡ reply c) where
   pub is_selected_lem : is_selected c ≡ true

@@ -77,9 +77,9 @@ module _ (c : Call) (known : (c.way ≡ 0) ⊎ (c.way ≡ 1)) (p : Solvable c) (
     arith,
     decimal_most 2 c.count (omega (arith, p.curve_long)),
     decimal_most 0 c.way (⊎_elim (λ (e : c.way ≡ 0). omega arith) (λ (e : c.way ≡ 1). omega arith) known),
-    decimal_most 8 (diversity c.outline c.way (best_set c)) (diversity_small c.outline p.formed c.way (best_set c)),
-    decimal_most 2 (cost c.outline (best_set c)) (cost_most c.count (omega arith) p.locked_fit),
-    decimal_most 2 (chosen_taxa c.outline (best_set c)) (taxa_most c.outline p.formed c.way (best_set c)),
+    decimal_most 8 (diversity c.outline c.way (best_set c)) (diversity_small c.outline p.searchable.formed c.way (best_set c)),
+    decimal_most 2 (cost c.outline (best_set c)) (cost_most c.count (omega arith) p.searchable.locked_fit),
+    decimal_most 2 (chosen_taxa c.outline (best_set c)) (taxa_most c.outline p.searchable.formed c.way (best_set c)),
   ))
 
   -- a column's two numbers: nine digits and three where a set fits, one digit and ten where none does
@@ -95,7 +95,7 @@ module _ (c : Call) (known : (c.way ≡ 0) ⊎ (c.way ≡ 1)) (p : Solvable c) (
           let fit = leb-true _ _ e in
           let s = optimum o c.way b in
           rw (shown_diversity o c.way b fit, shown_cost o c.way b fit)
-          (omega (arith, decimal_most 8 (diversity o c.way s) (diversity_small o p.formed c.way s), decimal_most 2 (cost o s) (cost_most b h fit)))
+          (omega (arith, decimal_most 8 (diversity o c.way s) (diversity_small o p.searchable.formed c.way s), decimal_most 2 (cost o s) (cost_most b h fit)))
       go false e =
           let short = leb-false _ _ e in
           rw (blank_diversity o c.way b short, blank_cost_lem o c.way b short)
@@ -116,9 +116,9 @@ module _ (c : Call) (known : (c.way ≡ 0) ⊎ (c.way ≡ 1)) (p : Solvable c) (
       written = unfold line in unfold others in simp length-append (omega (
         arith,
         decimal_most 9 (plate c.outline r) (omega arith),
-        decimal_most 6 (added (cost c.outline) (best_set c) r) (omega (arith, cost_small c.outline p.formed c.way (take r (best_set c)))),
+        decimal_most 6 (added (cost c.outline) (best_set c) r) (omega (arith, cost_small c.outline p.searchable.formed c.way (take r (best_set c)))),
         decimal_most 8 (added (diversity c.outline c.way) (best_set c) r)
-            (omega (arith, diversity_small c.outline p.formed c.way (take r (best_set c)))),
+            (omega (arith, diversity_small c.outline p.searchable.formed c.way (take r (best_set c)))),
       ))
 
       go : (b : Bool) → length (if b then line row else []) ≤ 29
@@ -130,13 +130,13 @@ module _ (c : Call) (known : (c.way ≡ 0) ⊎ (c.way ≡ 1)) (p : Solvable c) (
   total_long =
       let o = c.outline in
       let s = best_set c in
-      let whole = (optimum_set o c.way c.count p.locked_fit).whole in
+      let whole = (optimum_set o c.way c.count p.searchable.locked_fit).whole in
       rw (quarters_sum o s whole, diversity_sum o s whole c.way)
       (omega (
         arith,
         total_length (cost o s) (diversity o c.way s),
-        decimal_most 2 (cost o s) (cost_most c.count (omega arith) p.locked_fit),
-        decimal_most 8 (diversity o c.way s) (diversity_small o p.formed c.way s),
+        decimal_most 2 (cost o s) (cost_most c.count (omega arith) p.searchable.locked_fit),
+        decimal_most 8 (diversity o c.way s) (diversity_small o p.searchable.formed c.way s),
       ))
 
   selection_most : length (selection_text c) ≤ 16384
@@ -153,7 +153,7 @@ module _ (c : Call) (known : (c.way ≡ 0) ⊎ (c.way ≡ 1)) (p : Solvable c) (
         total_most (λ r. length (taxon_line c.outline c.way (best_set c) r)) 29 1 (size c.outline) (λ r l u. taxon_most r),
         total_long,
         p.curve_long,
-        p.formed.size_most,
+        p.searchable.formed.size_most,
       ))
 
 -- ---- what is printed

@@ -24,7 +24,7 @@ use Rattle.laws.proofs.Locks.{held_each, locked_taxa}
 use Rattle.laws.proofs.Optimum.{greatest_diversity}
 use Rattle.choice.specs.Answer as choose
 use Rattle.choice.specs.declared.answer.Figures.{Figures as ChoiceFigures}
-use Rattle.choice.proofs.Demands.{none_decided, demand_3}
+use Rattle.choice.proofs.Demands.{none_decided, best_told}
 use Rattle.quick.specs.Quick.{quick}
 use Rattle.quick.specs.Answer.{Call, Figures, no_figures, Answered, numbers_of, told, most_picks, judged, quick_set, figures_of, reply, marks_after}
 use Rattle.quick.specs.Demands.{quick_table, ChosenOrRefused, marked_set, TrueChoice, PicksMade, SameChoice, BestBetween, MorePicks}
@@ -47,11 +47,6 @@ module _ (c : Call) where
       (gives_then (records_give c.outline)
       (gives_then (gives_whole 8 (decides_less (length c.marks) (size c.outline)))
       (gives_whole 11 (none_decided c.outline 0 c.count))))))
-
--- a call of `choose` is told the best diversity of the exhaustive search
-best_told : (d : choose.Call) {best : Reply ChoiceFigures} {marks curve work : List ℕ} → choose.Answered d best marks curve work → best.number ≡ 0
-    → best.figures.diversity ≡ best_diversity d.outline d.way d.count
-best_told d y e = let f = demand_3 d y e in f.diversity_is_shown ∙ (f.columns d.count (omega arith)).searched.0
 
 best_of : {c : Call} {d : choose.Call} → SameChoice c d → best_diversity d.outline d.way d.count ≡ best_diversity c.outline 0 c.count
 best_of same = rw (same.outline_is, same.rooted, same.count_is)

@@ -74,7 +74,7 @@ module _ (o : List ℕ) where
   unfolding short
   short_in i j h = let e : i + j + 1 ≡ i + (j + 1) = omega arith in rw (e, ← get_or-drop i o j 0, ← get_or-drop i o (j + 1) 0, h)
 
-  long_in : (i j : ℕ) {s : List ℕ} → drop i o ≡ s
+  pub long_in : (i j : ℕ) {s : List ℕ} → drop i o ≡ s
       → long o (i + j) ≡ get_or s j 0 + 256 * get_or s (j + 1) 0 + 65536 * (get_or s (j + 2) 0 + 256 * get_or s (j + 2 + 1) 0)
   unfolding long
   long_in i j h = let e : i + j + 2 ≡ i + (j + 2) = omega arith in rw (e, short_in i j h, short_in i (j + 2) h)

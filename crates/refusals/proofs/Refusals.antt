@@ -29,6 +29,7 @@ refusal_numbered Refusal.LockedTooDear = omega arith
 refusal_numbered (Refusal.Unwritable r) = omega arith
 refusal_numbered (Refusal.BadMarks r) = omega arith
 refusal_numbered Refusal.TooManyPicks = omega arith
+refusal_numbered Refusal.BadRevision = omega arith
 
 pub refusal_not_zero : (e : Refusal) → eqb (refusal e).number 0 ≡ false
 refusal_not_zero e = ne_eqb (refusal e).number 0 (λ z. omega (arith, refusal_numbered e))
@@ -61,7 +62,8 @@ refusal_at t =
     else (if eqb t.number 11 then Refusal.BadPairs
     else (if eqb t.number 12 then Refusal.LockedTooDear
     else (if eqb t.number 13 then Refusal.Unwritable t.place
-    else (if eqb t.number 14 then Refusal.BadMarks t.place else Refusal.TooManyPicks)))))))))))))
+    else (if eqb t.number 14 then Refusal.BadMarks t.place
+    else (if eqb t.number 15 then Refusal.TooManyPicks else Refusal.BadRevision))))))))))))))
 
 refusal_at_lem : (e : Refusal) → refusal_at (refusal e) ≡ e
 unfolding refusal_at
@@ -80,6 +82,7 @@ refusal_at_lem Refusal.LockedTooDear = refl
 refusal_at_lem (Refusal.Unwritable r) = refl
 refusal_at_lem (Refusal.BadMarks r) = refl
 refusal_at_lem Refusal.TooManyPicks = refl
+refusal_at_lem Refusal.BadRevision = refl
 
 -- the number and the place determine the refusal
 pub refusal_determined : (d e : Refusal) → refusal d ≡ refusal e → d ≡ e
@@ -99,6 +102,14 @@ told_determined (Err d) (Err e) h = ap Err (refusal_determined d e h)
 -- what a `?` hands on is the error that it met
 pub handed_on : {T E : Type 0} {e : E} (r : Result T E) → IsErrAnd r (λ d. d ≡ e) → r ≡ Err e
 handed_on r h = let p = err_from_is_err_and r h in rw p.2 at p.1
+
+-- rows one after the other, in whatever parts
+pub then_assoc : (a b c : Ruling) → ((a ▸ b) ▸ c) ≡ (a ▸ (b ▸ c))
+then_assoc a b c = go (eqb a.number 0) refl
+  where
+    go : (t : Bool) → eqb a.number 0 ≡ t → (if eqb (if t then b else a).number 0 then c else (if t then b else a)) ≡ (if t then (b ▸ c) else a)
+    go true e = refl
+    go false e = rw e
 
 -- where rows pass, each of them passes
 pub both_pass : (a b : Ruling) → (a ▸ b).number ≡ 0 → (a.number ≡ 0) × (b.number ≡ 0)

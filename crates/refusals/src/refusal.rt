@@ -20,6 +20,7 @@ pub enum Refusal {
     Unwritable(usize),
     BadMarks(usize),
     TooManyPicks,
+    BadRevision,
 }
 
 impl Refusal {
@@ -43,6 +44,7 @@ impl Refusal {
             Refusal::Unwritable(_) => 13,
             Refusal::BadMarks(_) => 14,
             Refusal::TooManyPicks => 15,
+            Refusal::BadRevision => 16,
         }
     }
 

@@ -1,94 +1,16 @@
--- `choice::judge::judge` meets its contract: the rows that passed leave the answer to the next one.
-use Rattle.std.proofs.Common.{lt-ltb, le-ltb}
+-- `choice::judge::judge` meets its contract: it judges by one part of the rows after the other.
 use Rattle.refusals.proofs.Refusals.{refusal_not_zero, passed_zero, handed_on}
-use Rattle.outline.proofs.WellFormed.{sizes_formed, rows_kept}
-use Rattle.laws.proofs.Optimum.{none_exactly}
-use Rattle.choice.specs.Answer.{most_count, too_short, judged}
+use Rattle.choice.proofs.Rows.{rows_judged, first_passed}
 use Rattle.choice.proofs.judge.judge.Goals as goal
 
-pub returns-then-is_unknown : goal.returns-then-is_unknown
-unfolding judged
-returns-then-is_unknown c = simp (← c.is_unknown.ensures, c.if-is_unknown.true)
+pub returns-in_err-judge_outline : goal.returns-in_err-judge_outline
+returns-in_err-judge_outline c =
+    rw (handed_on _ c.from_residual.ensures.1, rows_judged) (simp (← c.in_err-judge_outline.ensures, refusal_not_zero))
 
-pub returns-in_err-check_size : goal.returns-in_err-check_size
-unfolding judged
-returns-in_err-check_size c =
-    rw (handed_on _ c.from_residual.ensures.1) (simp (← c.is_unknown.ensures, c.if-is_unknown.false, ← c.in_err-check_size.ensures, refusal_not_zero))
-
-pub returns-then-count-gt-MOST_COUNT : goal.returns-then-count-gt-MOST_COUNT
-unfolding judged
-returns-then-count-gt-MOST_COUNT c =
-    simp (
-      ← c.is_unknown.ensures,
-      c.if-is_unknown.false,
-      ← c.in_ok-check_size.ensures,
-      lt-ltb most_count c.args.count c.if-count-gt-MOST_COUNT.true,
-    )
-
-pub check_records-requires : goal.check_records-requires
-check_records-requires c = (sizes_formed _ (passed_zero c.in_ok-check_size.ensures)).2
-
-pub returns-in_err-check_records : goal.returns-in_err-check_records
-unfolding judged
-returns-in_err-check_records c =
-    rw (handed_on _ c.from_residual-in_err-check_records.ensures.1) (simp (
-      ← c.is_unknown.ensures,
-      c.if-is_unknown.false,
-      ← c.in_ok-check_size.ensures,
-      le-ltb most_count c.args.count c.if-count-gt-MOST_COUNT.false,
-      ← c.in_err-check_records.ensures,
-      refusal_not_zero,
-    ))
-
-pub is_short-requires : goal.is_short-requires
-is_short-requires c =
-    record { records = (sizes_formed _ (passed_zero c.in_ok-check_size.ensures)).2; columns = c.if-count-gt-MOST_COUNT.false }
-
-pub returns-then-is_short : goal.returns-then-is_short
-unfolding judged too_short
-returns-then-is_short c =
-    simp (
-      ← c.is_unknown.ensures,
-      c.if-is_unknown.false,
-      ← c.in_ok-check_size.ensures,
-      le-ltb most_count c.args.count c.if-count-gt-MOST_COUNT.false,
-      ← c.in_ok-check_records.ensures,
-      ← c.is_short.ensures,
-      c.if-is_short.true,
-    )
-
-pub locked_cost-requires : goal.locked_cost-requires
-locked_cost-requires c = rows_kept _ (passed_zero c.in_ok-check_size.ensures) (passed_zero c.in_ok-check_records.ensures)
-
--- row 12 goes by what the locked taxa cost
-pub returns-then-count-locked_cost : goal.returns-then-count-locked_cost
-unfolding judged too_short
-returns-then-count-locked_cost c =
-    simp (
-      ← c.is_unknown.ensures,
-      c.if-is_unknown.false,
-      ← c.in_ok-check_size.ensures,
-      le-ltb most_count c.args.count c.if-count-gt-MOST_COUNT.false,
-      ← c.in_ok-check_records.ensures,
-      ← c.is_short.ensures,
-      c.if-is_short.false,
-      none_exactly,
-      ← c.locked_cost.ensures,
-      lt-ltb c.args.count c.locked_cost.result c.if-count-locked_cost.true,
-    )
+pub judge_space-requires : goal.judge_space-requires
+judge_space-requires c =
+    let first = first_passed _ _ _ (passed_zero c.in_ok-judge_outline.ensures) in
+    (first.formed, first.low)
 
 pub returns : goal.returns
-unfolding judged too_short
-returns c =
-    simp (
-      ← c.is_unknown.ensures,
-      c.if-is_unknown.false,
-      ← c.in_ok-check_size.ensures,
-      le-ltb most_count c.args.count c.if-count-gt-MOST_COUNT.false,
-      ← c.in_ok-check_records.ensures,
-      ← c.is_short.ensures,
-      c.if-is_short.false,
-      none_exactly,
-      ← c.locked_cost.ensures,
-      le-ltb c.args.count c.locked_cost.result c.if-count-locked_cost.false,
-    )
+returns c = rw rows_judged (simp (← c.in_ok-judge_outline.ensures, ← c.judge_space.ensures))

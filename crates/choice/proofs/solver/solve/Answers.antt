@@ -1,10 +1,10 @@
--- `choice::chooser::solve` meets its contract: the filled table is read out, and then cleared.
+-- `choice::solver::solve` meets its contract: the filled table is read out, and then cleared.
 use Rattle.std.proofs.Common.{arith, ap, ◌∙◌, replicate}
 use Rattle.choice.specs.Answer.{diversity_at}
 use Rattle.choice.specs.Inner.{level}
 use Rattle.choice.proofs.Shown.{parts_low}
 use Rattle.choice.proofs.Solving.{alike_most, solved}
-use Rattle.choice.proofs.chooser.solve.Goals as goal
+use Rattle.choice.proofs.solver.solve.Goals as goal
 
 pub overflow_cast-result : goal.overflow_cast-result
 overflow_cast-result c = record { fits = omega (arith, parts_low c.best_at-best.result) }
