@@ -1,15 +1,17 @@
 -- The demands of calls of the C functions, and what is promised of several of them, `plates_write` and `plates_read`, `plates_choose` and
--- `plates_quick` or `plates_sheet`, `plates_quick`, `plates_view_buyer` and `plates_house_form` twice, `plates_compare` up to three times: what
--- is promised of the functions behind them, of the numbers that stand in `answer`.
+-- `plates_quick`, `plates_sheet` or `plates_revise`, `plates_quick`, `plates_view_buyer` and `plates_house_form` twice, `plates_compare` up to
+-- three times: what is promised of the functions behind them, of the numbers that stand in `answer`.
 use Prim.Native.Nat.{ℕ, ◌≤◌}
 use mathlib.Core.Path.{◌≡◌, refl, sym, ap, ◌∙◌}
 use mathlib.Core.Logic.{◌⊎◌, ◌↔◌}
+use mathlib.Core.Bool.{true}
 use mathlib.Core.List.{List}
 use Rattle.std.specs.Prelude.{ℤ, pos, neg_ℤ}
 use Rattle.std.specs.Ordering.{int_cmp, ordering_reverse}
 use Rattle.std.specs.declared.cmp.Ordering.{Ordering}
 use Rattle.std.specs.declared.cmp.Ordering.TheVariants.{Less, Equal, Greater}
-use lib.ListN.{length}
+use lib.ListN.{length, get_or}
+use Rattle.outline.specs.Answer.{is_accepted}
 use Rattle.diversity.specs.Order.{InTextOrder}
 use Rattle.reading.specs.Answer as read
 use Rattle.writing.specs.Answer as write
@@ -27,6 +29,10 @@ use Rattle.sheet.proofs.Demands.{demand_1 as sheet_decided, choice_listed}
 use Rattle.quick.specs.Answer as quick
 use Rattle.quick.specs.Demands as quicks
 use Rattle.quick.proofs.Demands.{demand_1 as quick_decided, true_choice, picks_made, best_between, more_picks}
+use Rattle.revise.specs.Answer as revise
+use Rattle.revise.specs.Demands as revisions
+use Rattle.revise.specs.Moved.{MovesWith}
+use Rattle.revise.proofs.Demands.{demand_1 as revise_decided, outline_revised, outline_accepted, sets_same, chosen, old_chosen, movements_true}
 use Rattle.canonical.specs.SameTree.{SameTree}
 use Rattle.house.specs.Answer as house
 use Rattle.house.specs.Compared as compare
@@ -39,7 +45,7 @@ use Rattle.view.specs.Answer as view
 use Rattle.view.specs.Demands.{ShownOrRefused, BuyersCalls, ViewSuffices, SameBytes}
 use Rattle.view.specs.View.{buyer_view}
 use Rattle.view.proofs.Demands.{demand_1 as view_decided, buyers_alike, buyers_alike_whole}
-use Rattle.plates.specs.Interface.{chosen_in, Chosen, quickly_chosen_in, QuicklyChosen, listed_in, SheetListed, read_in, TextRead, written_in, TextWritten, ruling_in, Viewed, Formed, order_number, compared_in, TreesCompared}
+use Rattle.plates.specs.Interface.{chosen_in, Chosen, quickly_chosen_in, QuicklyChosen, revised_in, LengthRevised, listed_in, SheetListed, read_in, TextRead, written_in, TextWritten, ruling_in, Viewed, Formed, order_number, compared_in, TreesCompared}
 
 -- the number of an order that is turned round
 negated : (o : Ordering) → order_number (ordering_reverse o) ≡ neg_ℤ (order_number o)
@@ -79,6 +85,49 @@ module _ {c : quick.Call} {n : ℕ} {answer : List ℕ} {ceiling : ℕ} {marks :
         → QuicklyChosen d m answer' ceiling' marks' → m ≡ 0
         → (quickly_chosen_in ceiling answer).figures.diversity ≤ (quickly_chosen_in ceiling' answer').figures.diversity
     quickly_more {d} more y e = more_picks c d more x.answered (sym x.number_given ∙ z) y.answered (sym y.number_given ∙ e)
+
+-- so it is with revising a length: the best diversity moves with the length; the revised outline is the given one with that length, and
+-- accepted, and the same sets fit it; what is given and left is what `plates_choose` on it, lent the same buffers, gives and leaves; on the given
+-- outline that is not refused either, and the best diversity moved from what any such call is told there
+module _ {c : revise.Call} {n : ℕ} {answer : List ℕ} {moved : List ℤ} {marks curve work : List ℕ} (x : LengthRevised c n answer moved marks curve work) where
+  pub revised_decided : revisions.RevisedOrRefused c (revised_in moved answer) marks curve work
+  revised_decided = revise_decided c x.given.answered
+
+  pub revised_moves : MovesWith (get_or moved 0 (pos 0)) (get_or moved 1 (pos 0))
+  revised_moves = x.given.answered.moves_with
+
+  module _ (z : n ≡ 0) where
+    told_0 : (revised_in moved answer).number ≡ 0
+    told_0 = sym x.given.number_given ∙ z
+
+    pub revised_outline : revisions.LengthReplaced c.outline (revise.new_outline c) c.changed c.to
+    revised_outline = outline_revised c x.given.answered told_0
+
+    pub revised_accepted : is_accepted (revise.new_outline c) ≡ true
+    revised_accepted = outline_accepted c x.given.answered told_0
+
+    pub revised_sets : revisions.SameSetsFit c.outline (revise.new_outline c)
+    revised_sets = sets_same c x.given.answered told_0
+
+    pub revised_chosen : Chosen (revise.new_choice c) n answer marks curve work
+    revised_chosen = record {
+      answer_long = x.given.answer_long;
+      number_given = x.given.number_given;
+      answered = chosen c x.given.answered told_0;
+    }
+
+    pub revised_true : choices.TrueOfMarks (revise.new_choice c) (chosen_in answer) marks
+    revised_true = chosen_true revised_chosen z
+
+    pub revised_found : choices.FoundBySearch (revise.new_choice c) (chosen_in answer) marks curve
+    revised_found = chosen_found revised_chosen z
+
+    pub revised_from : {k : ℕ} {answer' marks' curve' work' : List ℕ} → Chosen (revise.old_choice c) k answer' marks' curve' work' → k ≡ 0
+    revised_from y = y.number_given ∙ old_chosen c x.given.answered told_0 y.answered
+
+    pub revised_movements : {d : choose.Call} → revisions.SameChoice c d → {k : ℕ} {answer' marks' curve' work' : List ℕ}
+        → Chosen d k answer' marks' curve' work' → k ≡ 0 → revisions.MovementsTrue c (revised_in moved answer) (chosen_in answer')
+    revised_movements same y f = movements_true c x.given.answered told_0 same y.answered (sym y.number_given ∙ f)
 
 pub listed_decided : {c : sheet.Call} {n : ℕ} {answer lent : List ℕ} → SheetListed c n answer lent
     → sheets.ListedOrRefused c (listed_in answer) lent

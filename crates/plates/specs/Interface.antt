@@ -7,6 +7,8 @@ use Rattle.choice.specs.Answer as choose
 use Rattle.choice.specs.declared.answer.Figures.{Figures as ChoiceFigures}
 use Rattle.quick.specs.Answer as quick
 use Rattle.quick.specs.declared.answer.Figures.{Figures as QuickFigures}
+use Rattle.revise.specs.Answer as revise
+use Rattle.revise.specs.declared.answer.Figures.{Figures as RevisedFigures}
 use Rattle.reading.specs.Answer as read
 use Rattle.reading.specs.declared.answer.Figures.{Figures as ReadingFigures}
 use Rattle.writing.specs.Answer as write
@@ -47,6 +49,16 @@ quickly_chosen_in ceiling answer = reply_in answer (quick.reported (get_or answe
 -- a call is answered by them as `quick` answers it
 abbrev pub QuicklyChosen : quick.Call → ℕ → List ℕ → ℕ → List ℕ → Type 0
 QuicklyChosen c number answer ceiling marks = Given 5 (quickly_chosen_in ceiling) (λ r. quick.Answered c r marks) number answer
+
+-- the six numbers of a choice on a revised outline, with the two movements that are written beside them
+abbrev pub revised_in : List ℤ → List ℕ → Reply RevisedFigures
+revised_in moved answer =
+    reply_in answer (revise.remade (chosen_in answer).figures (revise.movements (get_or moved 0 (pos 0)) (get_or moved 1 (pos 0))))
+
+-- a call is answered by them as `revise` answers it, and there are two movements and no more
+pub record LengthRevised (c : revise.Call) (number : ℕ) (answer : List ℕ) (moved : List ℤ) (marks curve work : List ℕ) : Type 0 where
+  pub given : Given 6 (revised_in moved) (λ r. revise.Answered c r marks curve work) number answer
+  pub moved_long : length moved ≡ 2
 
 -- the five numbers of a sheet
 abbrev pub listed_in : List ℕ → Reply SheetFigures

@@ -10,12 +10,13 @@ ghost use Rattle.reading.specs.Answer.{call as reading, Numbers};
 ghost use Rattle.writing.specs.Answer.{call as writing};
 ghost use Rattle.choice.specs.Answer.{call};
 ghost use Rattle.quick.specs.Answer.{call as picking};
+ghost use Rattle.revise.specs.Answer.{call as revising};
 ghost use Rattle.sheet.specs.Answer.{call as listing};
 ghost use Rattle.house.specs.Answer.{call as forming};
 ghost use Rattle.house.specs.Compared.{call as comparing};
 ghost use Rattle.view.specs.Answer.{call as viewing};
 ghost use Rattle.view.specs.View.{house_view, buyer_view};
-ghost use Rattle.plates.specs.Interface.{Chosen, QuicklyChosen, SheetListed, TextRead, TextWritten, Viewed, Formed, TreesCompared, Given, ruling_in};
+ghost use Rattle.plates.specs.Interface.{Chosen, QuicklyChosen, LengthRevised, SheetListed, TextRead, TextWritten, Viewed, Formed, TreesCompared, Given, ruling_in};
 ghost use Rattle.outline.specs.Rules.{most_records};
 
 use choice::choose;
@@ -24,6 +25,7 @@ use outline::{check, find_record};
 use quick::quick;
 use reading::read;
 use refusals::Refusal;
+use revise::revise;
 use sheet::sheet as list;
 use view::{view_buyer, view_house};
 use writing::write;
@@ -126,6 +128,45 @@ pub extern "C" fn plates_quick(
         }
         Err(refusal) => {
             *ceiling = 0;
+            refuse(refusal, answer)
+        }
+    }
+}
+
+// Chooses on the outline with a new length of one record, and writes number, place, diversity, cost, number of taxa and spare, and beside them
+// how far the best diversity and the length moved, both 0 on a refusal; the number is given as well.
+#[unsafe(no_mangle)]
+pub extern "C" fn plates_revise(
+    outline: &[u8],
+    changed: u32,
+    to: u32,
+    count: u32,
+    way: u32,
+    marks: &mut [u8],
+    curve: &mut [u32],
+    work: &mut [u64],
+    answer: &mut [u32; 6],
+    moved: &mut [i64; 2],
+) -> u32
+    ensures { LengthRevised
+        (revising outline.now changed to count way marks.old curve.old work.old)
+        result answer.new moved.new marks.new curve.new work.new }
+{
+    match revise(outline, changed, to, count, way, marks, curve, work) {
+        Ok(f) => {
+            *moved = [f.moved.best, f.moved.length];
+            *answer = [
+                0,
+                0,
+                f.choice.diversity,
+                f.choice.cost,
+                f.choice.taxa,
+                f.choice.spare,
+            ];
+            0
+        }
+        Err(refusal) => {
+            *moved = [0, 0];
             refuse(refusal, answer)
         }
     }

@@ -1,0 +1,8 @@
+-- Laws that belong to no one function.
+pub mod Answers
+pub mod Bounds
+pub mod Bytes
+pub mod Demands
+pub mod Lengths
+pub mod Revisions
+pub mod Signs
