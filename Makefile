@@ -38,6 +38,9 @@ examples: lib
 	$(CC) -std=c11 -O2 -Wall -Wextra -pedantic -Iinclude examples/send_back.c $(LIBRARY) -o target/examples/send_back
 	target/examples/send_back
 	$(CARGO) run --offline --manifest-path bindings/rust/Cargo.toml --example send_back
+	$(CC) -std=c11 -O2 -Wall -Wextra -pedantic -Iinclude examples/second_edition.c $(LIBRARY) -o target/examples/second_edition
+	target/examples/second_edition
+	$(CARGO) run --offline --manifest-path bindings/rust/Cargo.toml --example second_edition
 
 scale: lib
 	bash tests/run

@@ -6,8 +6,8 @@
  * group's heading, and a page count, and may lock species that must be in the guide. The library gives the best set of plates
  * for that count, and for every smaller count the best that can be reached. That is not a heuristic: among all the sets that
  * fit, no other is better. While a page count is still being turned, a quick choice can be had: it may be poorer than the best,
- * and tells by how much at most. In the literature the problem is called phylogenetic diversity under a budget (Pardi and
- * Goldman, Systematic Biology 56(3), 2007).
+ * and tells by how much at most. Where a length changes between editions, the library tells how far that moves the best. In the
+ * literature the problem is called phylogenetic diversity under a budget (Pardi and Goldman, Systematic Biology 56(3), 2007).
  *
  *     plates_read         the outline of a tree in Newick form
  *     plates_write        an outline's tree in Newick form again
@@ -15,6 +15,7 @@
  *     plates_find         the record of the taxon that has a given plate
  *     plates_choose       the best taxa for a page count
  *     plates_quick        a quick choice for a page count that is still being turned, with a ceiling for the best
+ *     plates_revise       the best taxa once one length is revised, and how far the best diversity moves by that
  *     plates_sheet        the taxa of a set, with the quarters and the diversity that each adds
  *     plates_view_house   an outline as a house reader gets it, as it is
  *     plates_view_buyer   an outline as a buyer's reader gets it, without prices and locks
@@ -35,6 +36,7 @@
  *     marks      a set of taxa, as a number for each record: 1 for a taxon of the set, 0 for every other record
  *     pick       one step of a quick choice: a taxon is added to the set
  *     ceiling    a number that comes with a quick choice, and that the best diversity is never above
+ *     revised    said of an outline in which the length of one record has been replaced by another
  *     sheet      the taxa of a set in record order, each with its plate, the quarters and the diversity that it adds
  *     view       an outline as a reader gets it: as it is for a house reader, who may see prices and locks, and without these
  *                for a buyer's reader, who may not
@@ -217,6 +219,44 @@
  * quick choice. Even then plates_choose may give another set of that diversity: it also chooses free taxa that add nothing.
  *
  *
+ * WHEN ONE LENGTH IS REVISED
+ *
+ * Branch lengths change between editions. plates_revise tells what one such change does to a guide: it chooses on the revised
+ * outline, in which the length of one record is replaced, and tells how far the best diversity moves by that. The record may be
+ * a taxon, a group or the root, and the new length is 0 to 1,000,000; if it is the old one, nothing moves. The outline that is
+ * handed over is not written: it keeps the old length, so that each of several changes can be asked about by itself. What several
+ * changes move by themselves need not add up to what they move together: for that, choose on the outline that has them all.
+ *
+ * The set, its numbers and the curve are those that plates_choose gives of the revised outline, for the same count and way.
+ * Beside them moved has two numbers, each with a sign:
+ *
+ *     moved[0]   the best diversity of the revised outline less that of the given one
+ *     moved[1]   the new length less the old one
+ *
+ * In tree A with 5 quarters, rooted, the best set is plates 11 and 13, with diversity 12. Plates 12 and 13 have 10, and plates 11
+ * and 12 have 9. With one length revised at a time:
+ *
+ *     record  length   plates     diversity   moved
+ *        2    3 to 1   11 and 13     10       -2  -2    the branch is in the best set's tree
+ *        3    4 to 9   11 and 13     17        5   5    so is that of plate 11
+ *        3    4 to 1   12 and 13     10       -2  -3    plates 11 and 13 would have 9
+ *        4    2 to 3   11 and 13     12        0   1    plates 12 and 13 would have 11
+ *        4    2 to 6   12 and 13     14        2   4    plates 11 and 13 have 12 as before
+ *        5    5 to 0   11 and 12      9       -3  -5    plates 11 and 13 would have 7
+ *        1    0 to 6   11 and 13     18        6   6    unrooted it would be 12, moved 0 and 6: the root does not count there
+ *
+ * What is promised, either way of counting:
+ *
+ * - The best diversity moves by no more than the length: moved[0] is never larger in size than moved[1].
+ * - It never moves the other way: moved[0] is never above 0 where the length falls, nor below 0 where it rises. It may be 0
+ *   though moved[1] is not.
+ * - A revised outline is one that plates_check accepts, as the given one is. The answer, marks, curve and work are what a call of
+ *   plates_choose on it with the same buffers leaves.
+ *
+ * The old best is what plates_choose tells of the given outline; its diversity is also that of the answer less moved[0]. A set of
+ * plates costs the same before and after, so the given outline has a choice for a page count exactly if the revised one has.
+ *
+ *
  * THE SHEET
  *
  * plates_sheet lists the taxa of a marked set in record order, so that the foot of a page can be checked against the panel. Each
@@ -309,22 +349,23 @@
  *
  * WHAT THE CALLER HAS TO KEEP
  *
- * marks, curve and work of plates_choose are lent space, and so are the marks of plates_quick, the outline of plates_read, the
- * text and pairs of plates_write, the sheet of plates_sheet, the view of plates_view_house and plates_view_buyer, the form of
- * plates_house_form and both forms of plates_compare: buffers that a result is written to, and that a refusal leaves as they
- * were. answer, place, ceiling and order are no lent space. They carry the numbers that a call gives, so they are written in any
- * case, on a refusal too.
+ * marks, curve and work of plates_choose and plates_revise are lent space, and so are the marks of plates_quick, the outline of
+ * plates_read, the text and pairs of plates_write, the sheet of plates_sheet, the view of plates_view_house and
+ * plates_view_buyer, the form of plates_house_form and both forms of plates_compare: buffers that a result is written to, and
+ * that a refusal leaves as they were. answer, place, ceiling, moved and order are no lent space. They carry the numbers that a
+ * call gives, so they are written in any case, on a refusal too.
  *
  * - No pointer is null, not even where the length is 0, and each points to at least as many elements as its length says.
  *   Lengths are numbers of elements: text_len, outline_len, a_len, b_len, marks_len, view_len, form_len, form_a_len and
- *   form_b_len in bytes, pairs_len, curve_len and sheet_len in uint32_t, work_len in uint64_t. The answer of plates_choose has 6
- *   elements, that of plates_read has 3, that of plates_write has 4, that of plates_quick and plates_sheet has 5, that of
- *   plates_view_house, plates_view_buyer, plates_house_form and plates_compare has 2; place, ceiling and order have 1.
+ *   form_b_len in bytes, pairs_len, curve_len and sheet_len in uint32_t, work_len in uint64_t. The answer of plates_choose and
+ *   plates_revise has 6 elements, that of plates_read has 3, that of plates_write has 4, that of plates_quick and plates_sheet
+ *   has 5, that of plates_view_house, plates_view_buyer, plates_house_form and plates_compare has 2; moved has 2; place, ceiling
+ *   and order have 1.
  * - Each pointer is aligned as its element type asks. Text, outlines, marks, views and forms may begin at any byte.
- * - What a call writes (lent space, answer, place, ceiling, order) overlaps nothing else that it is handed: neither a view nor a
- *   house form is made in the place of its outline, and the two forms of plates_compare overlap neither outline nor each other.
- *   What a call only reads may overlap: the outline and the marks of plates_sheet may be the same memory, and so may the two
- *   outlines of plates_compare.
+ * - What a call writes (lent space, answer, place, ceiling, moved, order) overlaps nothing else that it is handed: neither a view
+ *   nor a house form is made in the place of its outline, and the two forms of plates_compare overlap neither outline nor each
+ *   other. What a call only reads may overlap: the outline and the marks of plates_sheet may be the same memory, and so may the
+ *   two outlines of plates_compare.
  * - While a call runs, nobody else writes what it is handed, and nobody else reads what it writes.
  *
  * What stands before a call where it writes makes no difference; that need not be initialised.
@@ -332,19 +373,21 @@
  *
  * WHAT THE LIBRARY KEEPS
  *
- * - Any bytes may be handed over as an outline, a text or the marks of plates_sheet, and any numbers as pairs, count, picks,
- *   way and lengths: what is not sound is refused, and a refusal of the table below is the only way for a call to fail.
+ * - Any bytes may be handed over as an outline, a text or the marks of plates_sheet, and any numbers as pairs, record, new
+ *   length, count, picks, way and lengths: what is not sound is refused, and a refusal of the table below is the only way for a
+ *   call to fail.
  * - Nothing is allocated, no file is touched, and there is no global state. Calls on different buffers may run at the same
  *   time, and may share what they only read.
  * - Nothing is written but what is named at each function, and no byte 0 behind a text. Only plates_read writes to the outline
- *   that it is handed, and only plates_choose and plates_quick to the marks.
- * - The time of a call is bounded. That of plates_choose grows linearly with the count; checking, finding, the quick choice,
- *   the sheet, the views, the house form and comparing take at most a few steps for each pair of records of an outline, the quick
- *   choice also for each pick with each record, writing also for each byte of the text, and reading also for each byte of the
- *   text and for each record with each pair of numbers.
- * - Little stack is used, since the table stands in work: choosing, the quick choice, writing, the sheet, the house form and
- *   comparing nest no deeper than there are records, which takes less than 64 KB on x86-64 for the deepest outlines. Reading a
- *   text takes less than 70 KB, however deep it is: its calls nest for 127 records, and no deeper.
+ *   that it is handed, and only plates_choose, plates_quick and plates_revise to the marks.
+ * - The time of a call is bounded. That of plates_choose grows linearly with the count, and plates_revise does no more than two
+ *   calls of plates_choose do, beside copying the outline; checking, finding, the quick choice, the sheet, the views, the house form
+ *   and comparing take at most a few steps for each pair of records of an outline, the quick choice also for each pick with each
+ *   record, writing also for each byte of the text, and reading also for each byte of the text and for each record with each pair
+ *   of numbers.
+ * - Little stack is used, since the table stands in work: choosing, revising, the quick choice, writing, the sheet, the house
+ *   form and comparing nest no deeper than there are records, which takes less than 64 KB on x86-64 for the deepest outlines.
+ *   Reading a text takes less than 70 KB, however deep it is: its calls nest for 127 records, and no deeper.
  */
 #ifndef PLATES_H
 #define PLATES_H
@@ -401,7 +444,7 @@ extern "C" {
  * answer is no buffer, and always has PLATES_ANSWER_LEN uint32_t, for plates_read PLATES_READ_ANSWER_LEN, for plates_write
  * PLATES_WRITE_ANSWER_LEN, for plates_quick PLATES_QUICK_ANSWER_LEN, for plates_sheet PLATES_SHEET_ANSWER_LEN, for
  * plates_view_house and plates_view_buyer PLATES_VIEW_ANSWER_LEN, and for plates_house_form and plates_compare
- * PLATES_FORM_ANSWER_LEN: see below.
+ * PLATES_FORM_ANSWER_LEN. Nor is moved, which always has PLATES_MOVED_LEN int64_t: see below.
  */
 #define PLATES_OUTLINE_LEN(records) (PLATES_CAST_(size_t, PLATES_RECORD_BYTES) * PLATES_CAST_(size_t, records))
 #define PLATES_PAIRS_LEN(taxa) (PLATES_CAST_(size_t, 2) * PLATES_CAST_(size_t, taxa))
@@ -423,7 +466,7 @@ extern "C" {
 #define PLATES_MOST_WORK_LEN PLATES_WORK_LEN(PLATES_MOST_RECORDS, PLATES_MOST_COUNT)
 #define PLATES_MOST_SHEET_LEN PLATES_SHEET_LEN(PLATES_MOST_TAXA)
 
-/* The ways, as plates_choose and plates_sheet take them. */
+/* The ways, as plates_choose, plates_revise and plates_sheet take them. */
 enum plates_way {
     PLATES_ROOTED = 0,
     PLATES_UNROOTED = 1
@@ -444,7 +487,7 @@ enum plates_order {
  * their numbers unless the function says another, and the first that holds is given. A refusal has a place: the number of the
  * record at fault, from 1, or 0 where no one record is.
  *
- * Later versions add refusals, with numbers from 16 on. So treat any number other than PLATES_OK as a refusal, also one that is
+ * Later versions add refusals, with numbers from 17 on. So treat any number other than PLATES_OK as a refusal, also one that is
  * not named here: give a switch over these a default.
  */
 enum plates_refusal {
@@ -468,10 +511,10 @@ enum plates_refusal {
     PLATES_TOO_MANY_TAXA = 7,
     /* An earlier taxon has the same plate, whatever their locks; place is the lowest such record, so the later of the two. */
     PLATES_DUPLICATE_PLATE = 8,
-    /* marks, curve or work of plates_choose is shorter than PLATES_MARKS_LEN, PLATES_CURVE_LEN or PLATES_WORK_LEN says, or the
-     * marks of plates_quick than PLATES_MARKS_LEN says, or the outline of plates_read, a view or a house form than
-     * PLATES_OUTLINE_LEN says, or the text or the pairs of plates_write than what is to be written, or the sheet than
-     * PLATES_SHEET_LEN says; place 0. */
+    /* marks, curve or work of plates_choose or plates_revise is shorter than PLATES_MARKS_LEN, PLATES_CURVE_LEN or
+     * PLATES_WORK_LEN says, or the marks of plates_quick than PLATES_MARKS_LEN says, or the outline of plates_read, a view or a
+     * house form than PLATES_OUTLINE_LEN says, or the text or the pairs of plates_write than what is to be written, or the sheet
+     * than PLATES_SHEET_LEN says; place 0. */
     PLATES_BUFFER_TOO_SHORT = 9,
     /* The text is no tree in the form above, or has more than 16,384 bytes; place 0. */
     PLATES_BAD_TEXT = 10,
@@ -488,10 +531,13 @@ enum plates_refusal {
      * the record is a group; place is the lowest such record. It is judged after 8 and before 9. */
     PLATES_BAD_MARKS = 14,
     /* More than 64 picks are asked for; place 0. It is judged after 4 and before 5. */
-    PLATES_TOO_MANY_PICKS = 15
+    PLATES_TOO_MANY_PICKS = 15,
+    /* The record to revise is 0 or above the number of records, or its new length is above 1,000,000; place 0. It is judged after
+     * 8 and before 9. */
+    PLATES_BAD_REVISION = 16
 };
 
-/* What stands where in the answer of plates_choose. */
+/* What stands where in the answer of plates_choose, and in that of plates_revise, which tells of the revised outline. */
 enum plates_answer {
     /* The refusal's number or PLATES_OK: the same that the call gives. */
     PLATES_ANSWER_NUMBER = 0,
@@ -562,6 +608,16 @@ enum plates_view_answer {
 enum plates_form_answer {
     /* The number of elements. */
     PLATES_FORM_ANSWER_LEN = 2
+};
+
+/* What stands where in moved of plates_revise. Both are 0 for a refusal. */
+enum plates_moved {
+    /* The best diversity of the revised outline less that of the given one. */
+    PLATES_MOVED_BEST = 0,
+    /* The new length less the old one. */
+    PLATES_MOVED_LENGTH = 1,
+    /* The number of elements. */
+    PLATES_MOVED_LEN = 2
 };
 
 /*
@@ -642,6 +698,24 @@ uint32_t plates_choose(const uint8_t *outline, size_t outline_len, uint32_t coun
  */
 uint32_t plates_quick(const uint8_t *outline, size_t outline_len, uint32_t count, uint32_t picks,
                       uint8_t *marks, size_t marks_len, uint32_t answer[5], uint64_t *ceiling);
+
+/*
+ * Chooses the best set of taxa for a page count as if the length of record `record` (from 1) were `length`, and tells how far the
+ * best diversity moves by that.
+ *
+ * Gives PLATES_OK, or the first of refusals 1 to 8, 16, 9 and 12 that holds, in this order, and writes all six elements of answer
+ * and both of moved in any case. On a refusal both of moved are 0. On PLATES_OK, for the outline with that length:
+ *
+ *     marks, curve, work, answer   as plates_choose leaves them, with the same count, way and buffers
+ *     moved                        the best diversity less that of the outline as it is, and the new length less the old one
+ *
+ * The first of moved is never larger in size than the second, and never of the other sign. Elements beyond those that
+ * plates_choose writes stay as they were, so a buffer may be longer than needed. On a refusal marks, curve and work all stay as
+ * they were.
+ */
+uint32_t plates_revise(const uint8_t *outline, size_t outline_len, uint32_t record, uint32_t length, uint32_t count, uint32_t way,
+                       uint8_t *marks, size_t marks_len, uint32_t *curve, size_t curve_len,
+                       uint64_t *work, size_t work_len, uint32_t answer[6], int64_t moved[2]);
 
 /*
  * Lists the taxa of a marked set, with what each adds.

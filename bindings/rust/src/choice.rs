@@ -103,15 +103,15 @@ impl Choice {
     }
 }
 
-/// Memory for choosing, to use again from call to call.
+/// Memory for choosing and revising, to use again from call to call.
 ///
 /// It grows as calls need it, to 17 MB for the largest outline and count, and doesn't shrink. It
 /// holds nothing that a later choice depends on.
 #[derive(Clone, Default)]
 pub struct Work {
-    marks: Vec<u8>,
-    curve: Vec<u32>,
-    cells: Vec<u64>,
+    pub(crate) marks: Vec<u8>,
+    pub(crate) curve: Vec<u32>,
+    pub(crate) cells: Vec<u64>,
 }
 
 impl Work {
@@ -121,10 +121,13 @@ impl Work {
         Work::default()
     }
 
-    fn grow(&mut self, records: usize, count: u32) {
-        grow(&mut self.marks, sys::marks_len(records));
-        grow(&mut self.curve, sys::curve_len(count));
-        grow(&mut self.cells, sys::work_len(records, count));
+    pub(crate) fn grow(&mut self, records: usize, count: u32) {
+        // A larger count is refused whatever the buffers are, so no memory is taken for it.
+        if count <= MOST_COUNT {
+            grow(&mut self.marks, sys::marks_len(records));
+            grow(&mut self.curve, sys::curve_len(count));
+            grow(&mut self.cells, sys::work_len(records, count));
+        }
     }
 }
 
@@ -223,11 +226,7 @@ pub fn choose_in(
     way: Way,
     work: &mut Work,
 ) -> Result<Choice, Refusal> {
-    let records = outline.records().len();
-    // A larger count is refused whatever the buffers are, so no memory is taken for it.
-    if count <= MOST_COUNT {
-        work.grow(records, count);
-    }
+    work.grow(outline.records().len(), count);
     let answer = call(outline, count, way, work);
     Refusal::judge(answer[0], answer[1])?;
     Ok(read(outline, count, work, answer))
@@ -257,8 +256,9 @@ fn call(outline: &Outline, count: u32, way: Way, work: &mut Work) -> [u32; 6] {
     answer
 }
 
-// What the call has written. The buffers may be longer than this call needs, from earlier ones.
-fn read(outline: &Outline, count: u32, work: &Work, answer: [u32; 6]) -> Choice {
+// What a call has written that has chosen on this outline. The buffers may be longer than it needs,
+// from earlier ones.
+pub(crate) fn read(outline: &Outline, count: u32, work: &Work, answer: [u32; 6]) -> Choice {
     let [_, _, diversity, cost, _, spare] = answer;
     let marks = work.marks[..outline.records().len()].to_vec();
     let columns = (0..=count).zip(work.curve.chunks_exact(2));

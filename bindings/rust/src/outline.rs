@@ -179,6 +179,33 @@ impl Outline {
         Some(locked)
     }
 
+    /// The outline with another length of the branch above a record, which is given by its number,
+    /// from 1: what [`revise`](Outline::revise) chooses on. All else is as it was.
+    ///
+    /// # Errors
+    ///
+    /// [`Refusal::BadRevision`] if the outline has no record of that number, or the length is above
+    /// 1,000,000; nothing else.
+    ///
+    /// ```
+    /// use plates::{Outline, Refusal};
+    ///
+    /// let prices = [(11, 3), (12, 1), (13, 2)];
+    /// let outline = Outline::from_newick("((11:4,12:2):3,13:5);", prices)?;
+    /// let revised = outline.with_length(2, 8)?;
+    /// assert_eq!(revised.to_newick()?.text, "((11:4,12:2):8,13:5):0;");
+    /// assert_eq!(outline.with_length(6, 8), Err(Refusal::BadRevision));
+    /// # Ok::<(), Refusal>(())
+    /// ```
+    pub fn with_length(&self, record: u32, length: u32) -> Result<Outline, Refusal> {
+        self.record(record).ok_or(Refusal::BadRevision)?;
+        let mut bytes = self.bytes.clone();
+        let at = RECORD_BYTES * (record as usize - 1);
+        bytes[at + 4..at + 8].copy_from_slice(&length.to_le_bytes());
+        // all else is sound, so it is the length that may be refused
+        Outline::from_bytes(&bytes).map_err(|_| Refusal::BadRevision)
+    }
+
     /// The taxon that has a plate, locked or not. `None` if no taxon has it, so for every number
     /// above [`MOST_PLATE`].
     ///

@@ -5,16 +5,17 @@ use std::fmt;
 
 /// Why an outline, a text or a call is refused. Where several reasons hold, the first in this order
 /// is given, but for three things: reading a text has an order of its own, which
-/// [`Outline::from_newick`](crate::Outline::from_newick) says, numbers 13 and 14 are judged before
-/// 9, and number 15 is judged after 4 and before 5.
+/// [`Outline::from_newick`](crate::Outline::from_newick) says, numbers 13, 14 and 16 are judged
+/// before 9, and number 15 is judged after 4 and before 5.
 ///
-/// The library's table of refusals grows: later versions add numbers from 16 on. So a `match` has
+/// The library's table of refusals grows: later versions add numbers from 17 on. So a `match` has
 /// an arm for the rest, and a number that these bindings do not know is a refusal all the same, as
 /// [`Other`](Refusal::Other).
 ///
 /// Through the safe interface only some of them arise: the bytes of an [`Outline`](crate::Outline)
 /// are refused with numbers 2, 3 and 5 to 8, a text with 3, 5, 7, 8, 10 and 11, choosing with
-/// numbers 4 and 12, a quick choice with 4, 12 and 15, writing with 13, listing a sheet with 14.
+/// numbers 4 and 12, a quick choice with 4, 12 and 15, revising a length with 4, 12 and 16, writing
+/// with 13, listing a sheet with 14.
 /// Number 9 is for those who lend the memory of a view or of a house form, or call
 /// [`sys`](crate::sys), and number 1 for the latter only.
 ///
@@ -86,6 +87,8 @@ pub enum Refusal {
     },
     /// 15: more than 64 picks are asked for.
     TooManyPicks,
+    /// 16: the outline has no record of the number to revise, or its new length is above 1,000,000.
+    BadRevision,
     /// A number that these bindings do not know, from a later version of the library. A later
     /// version of the bindings may have a name for it.
     #[non_exhaustive]
@@ -132,6 +135,7 @@ impl Refusal {
                 record: (place != 0).then_some(place),
             },
             15 => Refusal::TooManyPicks,
+            16 => Refusal::BadRevision,
             _ => Refusal::Other { number, place },
         })
     }
@@ -163,6 +167,7 @@ impl Refusal {
             Refusal::Unwritable { .. } => 13,
             Refusal::BadMarks { .. } => 14,
             Refusal::TooManyPicks => 15,
+            Refusal::BadRevision => 16,
             Refusal::Other { number, .. } => number,
         }
     }
@@ -220,6 +225,9 @@ impl fmt::Display for Refusal {
             }
             Refusal::BadMarks { record: None } => "there are fewer marks than records",
             Refusal::TooManyPicks => "more than 64 picks are asked for",
+            Refusal::BadRevision => {
+                "there is no record of the number to revise, or its new length is above 1000000"
+            }
             Refusal::Other { number, .. } => {
                 return write!(f, "refusal {number}, which these bindings do not know");
             }

@@ -1,8 +1,9 @@
 //! The house form, one outline for one tree, and comparing trees by it: what makes another tree and
 //! what does not, the order, the text, the refusals, and the buffers.
 
-use crate::support::{bytes, chain, changed, faulty, outline, outlines, plates, sound};
-use crate::support::{tree_a, Draw, Fields, INTERLEAVED, LOCK, PRICES_A, TREE_A, WAYS};
+use crate::support::{bytes, chain, changed, faulty, fields_of, outline, outlines, plates};
+use crate::support::{sound, tree_a, with_links, Draw, Fields};
+use crate::support::{INTERLEAVED, LOCK, PRICES_A, TREE_A, WAYS};
 use plates::{compare, house_form, sys, Newick, Outline, Record, Refusal, Tree, Way};
 use plates::{MOST_PLATE, MOST_RECORDS, MOST_TAXA, RECORD_BYTES};
 use std::cmp::Ordering;
@@ -107,16 +108,6 @@ fn shuffled(tree: &Outline, draw: &mut Draw) -> Outline {
         with_links(records[*record - 1], next, first)
     };
     outline(&order.iter().map(fields).collect::<Vec<_>>())
-}
-
-fn with_links(record: Record, next: u32, first: u32) -> Fields {
-    let plate_field = if record.locked { LOCK } else { 0 } | record.plate;
-    [next, first, record.length, record.price, plate_field]
-}
-
-fn fields_of(tree: &Outline) -> Vec<Fields> {
-    let fields = |record: Record| with_links(record, record.next, record.first);
-    tree.records().map(fields).collect()
 }
 
 /// The largest plate that a text has a form for.

@@ -1,61 +1,12 @@
 //! Every refusal: through the safe interface where it can arise there, else through the C
 //! interface.
 
-use crate::support::{bytes, changed, star_records, tree_a, Fields, LOCK, TREE_A};
+use crate::support::{bytes, changed, star_records, tree_a, Buffers, Fields, LOCK, TREE_A};
 use plates::{choose, sys, Outline, Refusal, Way};
 use std::error::Error;
 
 fn refused(records: &[Fields]) -> Refusal {
     Outline::from_bytes(&bytes(records)).expect_err("the outline isn't sound")
-}
-
-/// The buffers of a call for tree A, each full of a value that no call writes.
-struct Buffers {
-    marks: Vec<u8>,
-    curve: Vec<u32>,
-    work: Vec<u64>,
-}
-
-impl Buffers {
-    fn new(marks: usize, curve: usize, work: usize) -> Buffers {
-        Buffers {
-            marks: vec![0xa5; marks],
-            curve: vec![0xa5a5_a5a5; curve],
-            work: vec![0xa5a5_a5a5_a5a5_a5a5; work],
-        }
-    }
-
-    fn choose(&mut self, outline: &[u8], count: u32, way: u32) -> [u32; 6] {
-        let mut answer = [0xa5a5_a5a5; 6];
-        // SAFETY: each pointer and the length after it are those of one slice or vector, answer has
-        // six numbers, and no two overlap.
-        let number = unsafe {
-            sys::plates_choose(
-                outline.as_ptr(),
-                outline.len(),
-                count,
-                way,
-                self.marks.as_mut_ptr(),
-                self.marks.len(),
-                self.curve.as_mut_ptr(),
-                self.curve.len(),
-                self.work.as_mut_ptr(),
-                self.work.len(),
-                answer.as_mut_ptr(),
-            )
-        };
-        assert_eq!(number, answer[0]);
-        answer
-    }
-
-    fn is_untouched(&self) -> bool {
-        self.marks.iter().all(|byte| *byte == 0xa5)
-            && self.curve.iter().all(|number| *number == 0xa5a5_a5a5)
-            && self
-                .work
-                .iter()
-                .all(|number| *number == 0xa5a5_a5a5_a5a5_a5a5)
-    }
 }
 
 #[test]
@@ -226,8 +177,8 @@ fn first_that_holds_is_given() {
 
 #[test]
 fn numbers_and_places() {
-    for number in 1..=15 {
-        let refusal = Refusal::from_parts(number, 7).expect("fifteen refusals");
+    for number in 1..=16 {
+        let refusal = Refusal::from_parts(number, 7).expect("sixteen refusals");
         assert_eq!(refusal.number(), number);
         let has_place = [5, 6, 8, 13, 14].contains(&number);
         assert_eq!(refusal.place(), has_place.then_some(7));
@@ -292,6 +243,11 @@ fn refusals_are_errors_with_a_sentence() {
     assert_eq!(marks, "there are fewer marks than records");
     let picks = Refusal::TooManyPicks.to_string();
     assert_eq!(picks, "more than 64 picks are asked for");
+    let revision = Refusal::BadRevision.to_string();
+    assert_eq!(
+        revision,
+        "there is no record of the number to revise, or its new length is above 1000000"
+    );
     let later = |place| Refusal::from_parts(4_000, place).map(|refusal| refusal.to_string());
     let sentence = "refusal 4000, which these bindings do not know";
     assert_eq!(later(0).as_deref(), Some(sentence));

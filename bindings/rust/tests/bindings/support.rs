@@ -1,6 +1,6 @@
 //! Trees, bytes and numbers that several tests use.
 
-use plates::{Choice, Outline, Record, Refusal, Tree, Way, MOST_RECORDS};
+use plates::{sys, Choice, Outline, Record, Refusal, Tree, Way, MOST_RECORDS};
 use std::iter::successors;
 
 pub const WAYS: [Way; 2] = [Way::Rooted, Way::Unrooted];
@@ -71,6 +71,17 @@ pub fn bytes(records: &[Fields]) -> Vec<u8> {
 
 pub fn outline(records: &[Fields]) -> Outline {
     Outline::from_bytes(&bytes(records)).expect("the outline is sound")
+}
+
+/// A record's fields, with other links.
+pub fn with_links(record: Record, next: u32, first: u32) -> Fields {
+    let plate_field = if record.locked { LOCK } else { 0 } | record.plate;
+    [next, first, record.length, record.price, plate_field]
+}
+
+pub fn fields_of(tree: &Outline) -> Vec<Fields> {
+    let fields = |record: Record| with_links(record, record.next, record.first);
+    tree.records().map(fields).collect()
 }
 
 pub fn tree_a() -> Outline {
@@ -242,4 +253,49 @@ pub fn plates(choice: &Choice) -> Vec<u32> {
 pub fn told(choice: &Choice) -> (Vec<u32>, u32, u32, u32) {
     let plates = plates(choice);
     (plates, choice.diversity(), choice.cost(), choice.spare())
+}
+
+/// The buffers that a choice is written to, each full of a value that no call writes.
+#[derive(Clone, Debug, PartialEq)]
+pub struct Buffers {
+    pub marks: Vec<u8>,
+    pub curve: Vec<u32>,
+    pub work: Vec<u64>,
+}
+
+impl Buffers {
+    pub fn new(marks: usize, curve: usize, work: usize) -> Buffers {
+        Buffers {
+            marks: vec![0xa5; marks],
+            curve: vec![0xa5a5_a5a5; curve],
+            work: vec![0xa5a5_a5a5_a5a5_a5a5; work],
+        }
+    }
+
+    pub fn choose(&mut self, outline: &[u8], count: u32, way: u32) -> [u32; 6] {
+        let mut answer = [0xa5a5_a5a5; 6];
+        // SAFETY: each pointer and the length after it are those of one slice or vector, answer has
+        // six numbers, and no two overlap.
+        let number = unsafe {
+            sys::plates_choose(
+                outline.as_ptr(),
+                outline.len(),
+                count,
+                way,
+                self.marks.as_mut_ptr(),
+                self.marks.len(),
+                self.curve.as_mut_ptr(),
+                self.curve.len(),
+                self.work.as_mut_ptr(),
+                self.work.len(),
+                answer.as_mut_ptr(),
+            )
+        };
+        assert_eq!(number, answer[0]);
+        answer
+    }
+
+    pub fn is_untouched(&self) -> bool {
+        *self == Buffers::new(self.marks.len(), self.curve.len(), self.work.len())
+    }
 }
