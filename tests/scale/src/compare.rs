@@ -6,11 +6,12 @@ use crate::form::{ascends, least_plates, FormExpected};
 use crate::frame::difference;
 use crate::library::{
     CheckObserved, ChooseObserved, CompareObserved, FindObserved, FormObserved, QuickObserved,
-    ReadObserved, SheetObserved, ViewObserved, WriteObserved,
+    ReadObserved, ReviseObserved, SheetObserved, ViewObserved, WriteObserved,
 };
 use crate::outline::{self, is_preorder, Record, LOCK};
 use crate::quick::QuickExpected;
 use crate::reading::ReadExpected;
+use crate::revise::ReviseExpected;
 use crate::rules::{self, Refusal};
 use crate::same_tree::are_same;
 use crate::sheet::SheetExpected;
@@ -324,6 +325,47 @@ pub fn trees(expected: &CompareExpected, observed: &CompareObserved) -> Comparis
     }
 }
 
+pub fn revise(expected: &ReviseExpected, observed: &ReviseObserved) -> Comparison {
+    let mut comparison = choose(&expected.choice, &observed.chosen);
+    let (before, after) = (&observed.moved_before, &observed.moved_after);
+    let moved = difference("moved", before, after, &expected.moved);
+    comparison.differences.extend(moved);
+    comparison.values += after.cells.len();
+    comparison
+}
+
+/// Where a revision does not go with what the library itself chooses: from the outline before, and from the revised one in buffers
+/// that were the same.
+pub fn beside_choices(
+    observed: &ReviseObserved,
+    old: &ChooseObserved,
+    new: &ChooseObserved,
+) -> Vec<String> {
+    let (after, chosen) = (&observed.chosen.after, &new.after);
+    let best = [old, new].map(|choice| i64::from(choice.after.answer.content()[2]));
+    let moved = observed.moved()[0];
+    let differences = [
+        returned(new.returned, observed.chosen.returned),
+        difference("answer", &chosen.answer, &after.answer, &[]),
+        difference("marks", &chosen.marks, &after.marks, &[]),
+        difference("curve", &chosen.curve, &after.curve, &[]),
+        difference("work", &chosen.work, &after.work, &[]),
+        (moved != best[1] - best[0]).then(|| format!("the best moved from {best:?} by {moved}")),
+    ];
+    let differences = differences.into_iter().flatten();
+    differences
+        .map(|text| format!("beside plates_choose: {text}"))
+        .collect()
+}
+
+/// Where the best moved by more than the length or the other way.
+pub fn beyond_length(observed: &ReviseObserved) -> Option<String> {
+    let [best, length] = observed.moved();
+    let holds = best.unsigned_abs() <= length.unsigned_abs()
+        && (best == 0 || best.signum() == length.signum());
+    (!holds).then(|| format!("moved: the best by {best}, the length by {length}"))
+}
+
 #[cfg(test)]
 mod tests {
     use super::*;
@@ -336,18 +378,19 @@ mod tests {
     use crate::frame::Frame;
     use crate::heading_cases::tree_a_with;
     use crate::library::{
-        Buffers, CompareBuffers, FormBuffers, QuickBuffers, ReadBuffers, SheetBuffers, ViewBuffers,
-        WriteBuffers,
+        self, Buffers, CompareBuffers, FormBuffers, QuickBuffers, ReadBuffers, ReviseBuffers,
+        SheetBuffers, ViewBuffers, WriteBuffers,
     };
     use crate::lock_cases::locking;
     use crate::outline::bytes;
     use crate::quick::{self, QuickCall};
     use crate::random::Random;
     use crate::reading::{self, ReadCall};
+    use crate::revise::{self, ReviseCall};
     use crate::sheet::{self, SheetCall};
     use crate::view::{self, Reader, ViewCall, READERS};
     use crate::writing::{self, WriteCall};
-    use crate::{wrong_forms, wrong_orders, wrong_picks, wrong_views};
+    use crate::{wrong_forms, wrong_orders, wrong_picks, wrong_revisions, wrong_views};
 
     /// What a right library does.
     fn right(expected: &Expected, call: &Call) -> ChooseObserved {
@@ -953,6 +996,117 @@ mod tests {
             altered.after.order = altered.before.order.clone();
             let untouched = trees(&expected, &altered).differences.len();
             assert_eq!(untouched, if number == 0 { 4 } else { 2 });
+        }
+    }
+
+    /// Record 3 of tree A without length, by a right program, in buffers of these lengths.
+    fn revising(marks: usize, curve: usize, work: usize) -> (ReviseExpected, ReviseObserved) {
+        let given = Call {
+            outline: bytes(&cases::tree_a()),
+            count: 5,
+            way: 0,
+            marks,
+            curve,
+            work,
+        };
+        let (record, length) = (3, 0);
+        let call = ReviseCall {
+            given,
+            record,
+            length,
+        };
+        let before = ReviseBuffers::random(&call, &mut Random::new(12));
+        let observed = wrong_revisions::RIGHT.run()(&call, before);
+        (revise::expected(&call, expect::by_table).0, observed)
+    }
+
+    #[test]
+    fn wrong_revisions_are_noticed() {
+        for (lengths, number) in [([9, 20, 200], 0), ([5, 12, 168], 0), ([5, 12, 167], 9)] {
+            let [marks, curve, work] = lengths;
+            let pair = revising(marks, curve, work);
+            assert_eq!(pair.0.number(), number);
+            assert_eq!(revise(&pair.0, &pair.1).differences, [""; 0]);
+            is_the_one_difference(revise, &pair, |o| &mut o.chosen.after.outline, |v| v ^ 1);
+            is_the_one_difference(revise, &pair, |o| &mut o.chosen.after.marks, |v| v ^ 1);
+            is_the_one_difference(
+                revise,
+                &pair,
+                |o| &mut o.chosen.after.curve,
+                |v| v ^ (1 << 31),
+            );
+            is_the_one_difference(
+                revise,
+                &pair,
+                |o| &mut o.chosen.after.work,
+                |v| v ^ (1 << 63),
+            );
+            is_the_one_difference(revise, &pair, |o| &mut o.moved_after, |v| v ^ (1 << 62));
+            let (expected, mut altered) = pair;
+            altered.chosen.returned ^= 1;
+            assert_eq!(revise(&expected, &altered).differences.len(), 1);
+            altered.moved_after.write(&[2, 4]);
+            assert_eq!(revise(&expected, &altered).differences.len(), 2);
+        }
+    }
+
+    /// The best was 12 and is 10.
+    #[test]
+    fn a_revision_that_does_not_go_with_two_choices_is_noticed() {
+        let (_, observed) = revising(9, 20, 200);
+        let mut before = observed.chosen.before.clone();
+        let old = library::choose_in(5, 0, before.clone());
+        before.outline.write(&bytes(&with_length(0)));
+        let new = library::choose_in(5, 0, before);
+        let found = |observed: &ReviseObserved| beside_choices(observed, &old, &new);
+        assert_eq!(found(&observed), [""; 0]);
+        assert_eq!(beside_choices(&observed, &new, &old).len(), 4);
+        let mut altered = observed.clone();
+        altered.moved_after.write(&[2]);
+        let text = "beside plates_choose: the best moved from [12, 10] by 2";
+        assert_eq!(found(&altered), [text]);
+        let alter: [fn(&mut ReviseObserved); 5] = [
+            |o| o.chosen.returned = 9,
+            |o| o.chosen.after.answer.cells[o.chosen.after.answer.start + 5] ^= 1,
+            |o| o.chosen.after.marks.cells[0] ^= 1,
+            |o| o.chosen.after.curve.cells[o.chosen.after.curve.start] ^= 1,
+            |o| o.chosen.after.work.cells[o.chosen.after.work.start] ^= 1,
+        ];
+        for alter in alter {
+            let mut altered = observed.clone();
+            alter(&mut altered);
+            assert_eq!(found(&altered).len(), 1);
+        }
+    }
+
+    /// Tree A with this length at record 3.
+    fn with_length(length: u32) -> Vec<Record> {
+        let mut records = cases::tree_a();
+        records[2].length = length;
+        records
+    }
+
+    #[test]
+    fn a_best_that_moves_by_more_than_the_length_or_the_other_way_is_noticed() {
+        let (_, mut observed) = revising(9, 20, 200);
+        for (moved, holds) in [
+            ([0, 0], true),
+            ([0, 5], true),
+            ([0, -5], true),
+            ([5, 5], true),
+            ([-5, -5], true),
+            ([1, 5], true),
+            ([-1, -5], true),
+            ([1, 0], false),
+            ([-1, 0], false),
+            ([6, 5], false),
+            ([-6, -5], false),
+            ([1, -5], false),
+            ([-1, 5], false),
+            ([i64::MIN, i64::MAX], false),
+        ] {
+            observed.moved_after.write(&moved);
+            assert_eq!(beyond_length(&observed).is_none(), holds, "{moved:?}");
         }
     }
 }

@@ -33,6 +33,12 @@ impl Cell for i32 {
     }
 }
 
+impl Cell for i64 {
+    fn from_bits(bits: u64) -> Self {
+        bits as i64
+    }
+}
+
 /// The buffer is `cells[start..start + len]`; the cells around it are its guard.
 #[derive(Clone, Debug, PartialEq, Eq)]
 pub struct Frame<T> {

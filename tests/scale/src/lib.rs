@@ -16,6 +16,7 @@ mod form_runs;
 pub mod frame;
 pub mod heading_cases;
 pub mod headings;
+mod length_walks;
 pub mod library;
 pub mod lock_cases;
 pub mod locks;
@@ -30,6 +31,9 @@ mod quick_runs;
 pub mod random;
 pub mod reading;
 pub mod report;
+pub mod revise;
+pub mod revise_cases;
+mod revise_runs;
 pub mod rules;
 pub mod runs;
 pub mod same_tree;
@@ -59,5 +63,7 @@ mod wrong_forms;
 mod wrong_orders;
 #[cfg(test)]
 mod wrong_picks;
+#[cfg(test)]
+mod wrong_revisions;
 #[cfg(test)]
 mod wrong_views;

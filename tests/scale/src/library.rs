@@ -7,6 +7,7 @@ use crate::frame::Frame;
 use crate::quick::QuickCall;
 use crate::random::Random;
 use crate::reading::ReadCall;
+use crate::revise::ReviseCall;
 use crate::sheet::SheetCall;
 use crate::view::{Reader, ViewCall};
 use crate::writing::WriteCall;
@@ -97,6 +98,22 @@ extern "C" {
         form_b_len: usize,
         answer: *mut u32,
         order: *mut i32,
+    ) -> u32;
+    fn plates_revise(
+        outline: *const u8,
+        outline_len: usize,
+        record: u32,
+        length: u32,
+        count: u32,
+        way: u32,
+        marks: *mut u8,
+        marks_len: usize,
+        curve: *mut u32,
+        curve_len: usize,
+        work: *mut u64,
+        work_len: usize,
+        answer: *mut u32,
+        moved: *mut i64,
     ) -> u32;
 }
 
@@ -209,15 +226,19 @@ pub struct ChooseObserved {
 }
 
 pub fn guarded_choose(call: &Call, rng: &mut Random) -> ChooseObserved {
-    let before = Buffers::random(call, rng);
+    choose_in(call.count, call.way, Buffers::random(call, rng))
+}
+
+/// The library's function on buffers as they are.
+pub fn choose_in(count: u32, way: u32, before: Buffers) -> ChooseObserved {
     let mut after = before.clone();
     // SAFETY: each frame's buffer has the length given here, and the frames are separate allocations.
     let returned = unsafe {
         plates_choose(
             after.outline.pointer(),
             after.outline.len,
-            call.count,
-            call.way,
+            count,
+            way,
             after.marks.pointer(),
             after.marks.len,
             after.curve.pointer(),
@@ -710,6 +731,80 @@ pub fn compare(before: CompareBuffers) -> CompareObserved {
     }
 }
 
+/// What a call that revises a length is handed, with its guards: the buffers of a choosing call, and those of the movement.
+#[derive(Clone, Debug)]
+pub struct ReviseBuffers {
+    pub choice: Buffers,
+    pub moved: Frame<i64>,
+}
+
+impl ReviseBuffers {
+    pub fn random(call: &ReviseCall, rng: &mut Random) -> Self {
+        ReviseBuffers {
+            choice: Buffers::random(&call.given, rng),
+            moved: Frame::random(2, rng),
+        }
+    }
+}
+
+/// What a call that revises a length returned and did to its buffers.
+#[derive(Clone, Debug)]
+pub struct ReviseObserved {
+    pub chosen: ChooseObserved,
+    pub moved_before: Frame<i64>,
+    pub moved_after: Frame<i64>,
+}
+
+impl ReviseObserved {
+    /// The best diversity and the length, each new minus old.
+    pub fn moved(&self) -> [i64; 2] {
+        let moved = self.moved_after.content();
+        [moved[0], moved[1]]
+    }
+}
+
+/// A program that revises a length: the library, or in tests a wrong one.
+pub type Reviser<'a> = &'a dyn Fn(&ReviseCall, ReviseBuffers) -> ReviseObserved;
+
+pub fn guarded_revise(call: &ReviseCall, rng: &mut Random) -> ReviseObserved {
+    revise(call, ReviseBuffers::random(call, rng))
+}
+
+/// The library's function on buffers as they are.
+pub fn revise(call: &ReviseCall, before: ReviseBuffers) -> ReviseObserved {
+    let ReviseBuffers { choice, moved } = before;
+    let (mut after, mut moved_after) = (choice.clone(), moved.clone());
+    // SAFETY: each frame's buffer has the length given here, and the frames are separate allocations; the answer has room for six
+    // numbers and the movement for two.
+    let returned = unsafe {
+        plates_revise(
+            after.outline.pointer(),
+            after.outline.len,
+            call.record,
+            call.length,
+            call.given.count,
+            call.given.way,
+            after.marks.pointer(),
+            after.marks.len,
+            after.curve.pointer(),
+            after.curve.len,
+            after.work.pointer(),
+            after.work.len,
+            after.answer.pointer(),
+            moved_after.pointer(),
+        )
+    };
+    ReviseObserved {
+        chosen: ChooseObserved {
+            returned,
+            before: choice,
+            after,
+        },
+        moved_before: moved,
+        moved_after,
+    }
+}
+
 #[cfg(test)]
 mod tests {
     use super::*;
@@ -851,5 +946,36 @@ mod tests {
             assert_eq!(observed.forms(), [&outline[..], &outline[from..]]);
             assert_eq!(observed.after.answer.content(), [0, 0]);
         }
+    }
+    /// Record 3 gets a length of 0, so that records 4 and 5 are chosen.
+    #[test]
+    fn wrapper_revises_tree_a() {
+        let call = ReviseCall {
+            given: Call {
+                outline: bytes(&tree_a()),
+                count: 5,
+                way: 0,
+                marks: 6,
+                curve: 13,
+                work: 169,
+            },
+            record: 3,
+            length: 0,
+        };
+        let observed = guarded_revise(&call, &mut Random::new(1));
+        assert_eq!(observed.moved(), [-2, -4]);
+        let ChooseObserved {
+            returned,
+            before,
+            after,
+        } = observed.chosen;
+        assert_eq!(returned, 0);
+        assert_eq!(after.answer.content(), [0, 0, 10, 3, 2, 2]);
+        assert_eq!(after.outline.content(), call.given.outline);
+        assert_eq!(after.marks.content()[..5], [0, 0, 0, 1, 1]);
+        assert_eq!(after.marks.content()[5], before.marks.content()[5]);
+        let curve = [0, 0, 5, 1, 5, 1, 10, 3, 10, 3, 10, 3];
+        assert_eq!(after.curve.content()[..12], curve);
+        assert_eq!(after.work.content()[..168], [0; 168]);
     }
 }

@@ -581,7 +581,7 @@ fn some_call(rng: &mut Random) -> QuickCall {
 }
 
 /// Mostly sound; else with too many records or taxa, or damaged. With the page count that is meant for it.
-fn some_outline(rng: &mut Random) -> (Vec<u8>, u32) {
+pub(crate) fn some_outline(rng: &mut Random) -> (Vec<u8>, u32) {
     match rng.below(16) {
         0..3 => damage::damaged_outline(40, rng),
         3 | 4 => {
@@ -632,7 +632,7 @@ fn outline_with_ties(rng: &mut Random) -> (Vec<Record>, u32) {
 }
 
 /// Lengths, prices and headings of few values, at times groups without branches, taxa whose price is their length, or locks.
-fn fill_for_ties(records: &mut [Record], rng: &mut Random) {
+pub(crate) fn fill_for_ties(records: &mut [Record], rng: &mut Random) {
     let [length, price, heading] =
         [[0, 1, 1, 2, 9], [0, 1, 2, 3, 9], [0, 1, 2, 3, 9]].map(|most| rng.pick(&most));
     shapes::fill(
@@ -659,7 +659,7 @@ fn fill_for_ties(records: &mut [Record], rng: &mut Random) {
 }
 
 /// As it is meant, about the cost of the locked taxa, few quarters, or as many as can be or more.
-fn some_count(outline: &[u8], meant: u32, rng: &mut Random) -> u32 {
+pub(crate) fn some_count(outline: &[u8], meant: u32, rng: &mut Random) -> u32 {
     match rng.below(24) {
         0 => 0,
         1 => 1,

@@ -68,7 +68,10 @@ impl Runner {
         self.compared_outlines(outlines / 2)?;
         self.compared_pairs(outlines / 4)?;
         self.compared_rows(outlines / 20)?;
-        self.stated_orders()
+        self.stated_orders()?;
+        self.revised_lengths(2 * outlines)?;
+        self.length_walks(outlines / 10)?;
+        self.stated_revisions()
     }
 
     /// Starts a run with numbers that do not depend on the runs before it.
