@@ -29,6 +29,16 @@ impl Buffers {
         }
     }
 
+    /// As much of each as a call needs.
+    pub fn needed(&mut self, records: usize, count: u32) -> (&mut [u8], &mut [u32], &mut [u64]) {
+        let [marks, curve, work] = needed(records, count);
+        (
+            &mut self.marks[..marks],
+            &mut self.curve[..curve],
+            &mut self.work[..work],
+        )
+    }
+
     /// `plates_choose` with the whole of each.
     pub fn choose(&mut self, outline: &[u8], count: u32, way: u32) -> [u32; 6] {
         let Buffers { marks, curve, work } = self;
@@ -121,15 +131,8 @@ impl Case {
     }
 
     fn choose_by(&self, choose: Choose, buffers: &mut Buffers) -> [u32; 6] {
-        let [marks, curve, work] = self.needed();
-        choose(
-            &self.outline,
-            self.count,
-            self.way,
-            &mut buffers.marks[..marks],
-            &mut buffers.curve[..curve],
-            &mut buffers.work[..work],
-        )
+        let (marks, curve, work) = buffers.needed(self.tree.records.len(), self.count);
+        choose(&self.outline, self.count, self.way, marks, curve, work)
     }
 
     /// The wall time of a call.

@@ -1,8 +1,9 @@
 //! Measures `plates_choose` beside clearing `work`, IQ-TREE 2, GLPK and two tables in Rust, `plates_read`, `plates_write`,
 //! `plates_sheet` and both views beside a plain reader, writer, lister and viewer in Rust, `plates_quick` beside a plain picker and
-//! `plates_choose`, and `plates_house_form` and `plates_compare` beside a plain sorter, and prints the times in Markdown. With
-//! `--picks` it measures only the quick choices, with `--houses` only the house forms, and with `--beside` `plates_choose` beside
-//! another build's instead, to see what a change costs.
+//! `plates_choose`, `plates_house_form` and `plates_compare` beside a plain sorter, and `plates_revise` beside a plain reviser and
+//! `plates_choose`, and prints the times in Markdown. With `--picks` it measures only the quick choices, with `--houses` only the
+//! house forms, with `--revisions` only the revised lengths, and with `--beside` `plates_choose` beside another build's instead, to
+//! see what a change costs.
 
 mod beside;
 mod case;
@@ -18,6 +19,8 @@ mod plain;
 mod reader;
 mod reading;
 mod report;
+mod reviser;
+mod revising;
 mod scratch;
 mod sorter;
 mod sorting;
@@ -35,6 +38,7 @@ use listing::Listing;
 use picking::Picking;
 use reading::Reading;
 use report::Missing;
+use revising::Revising;
 use scratch::Scratch;
 use sorting::Sorting;
 use std::path::Path;
@@ -43,10 +47,11 @@ use viewing::Viewing;
 use writing::Writing;
 
 const USAGE: &str = "\
-bench [--quick | --picks | --houses | --beside OTHER THIS]
+bench [--quick | --picks | --houses | --revisions | --beside OTHER THIS]
   --quick              fewer runs, without GLPK and the tables
   --picks              only plates_quick beside a plain picker and plates_choose
   --houses             only plates_house_form and plates_compare beside a plain sorter
+  --revisions          only plates_revise beside a plain reviser and plates_choose
   --beside OTHER THIS  only plates_choose of two builds, OTHER and THIS being shared objects;
                        `make bench-beside BESIDE=libplates.a` makes them of static libraries and runs this";
 const RECORDS: usize = 127;
@@ -77,6 +82,7 @@ fn main() -> ExitCode {
         ["--quick"] => run(&Plan::new(true)),
         ["--picks"] => run_picks(&Plan::new(false)),
         ["--houses"] => run_houses(&Plan::new(false)),
+        ["--revisions"] => run_revisions(&Plan::new(false)),
         ["--beside", other, this] => run_beside(Path::new(other), Path::new(this)),
         _ => {
             eprintln!("{USAGE}");
@@ -101,6 +107,7 @@ fn run(plan: &Plan) -> Result<(), String> {
     // First, since a difference in these ends the benchmark.
     let (pickings, picked) = pickings(plan, &mut buffers)?;
     let (sortings, sorted) = sortings(plan)?;
+    let (revisings, revised) = revisings(plan, &mut buffers)?;
     let mut groups = groups();
     let mut sizes = size_cases();
     let all = groups.iter_mut().flatten().chain(&mut sizes);
@@ -122,6 +129,7 @@ fn run(plan: &Plan) -> Result<(), String> {
     report::viewings(&viewings, agreement);
     report::pickings(&pickings, &picked);
     report::sortings(&sortings, &sorted);
+    report::revisings(&revisings, &revised);
     Ok(())
 }
 
@@ -136,6 +144,13 @@ fn run_houses(plan: &Plan) -> Result<(), String> {
     println!("Machine: {}\n", machine::description());
     let (sortings, sorted) = sortings(plan)?;
     report::sortings(&sortings, &sorted);
+    Ok(())
+}
+
+fn run_revisions(plan: &Plan) -> Result<(), String> {
+    println!("Machine: {}\n", machine::description());
+    let (revisings, revised) = revisings(plan, &mut Buffers::new(RECORDS, COUNT))?;
+    report::revisings(&revisings, &revised);
     Ok(())
 }
 
@@ -214,7 +229,24 @@ fn sortings(plan: &Plan) -> Result<(Vec<Sorting>, sorting::Agreement), String> {
     Ok((measured(plan, all, Sorting::measure), agreement))
 }
 
-/// The readings, the writings, the listings, the viewings, the pickings or the sortings, with their times.
+/// The revisings with their times, and what was compared before. They have fewer rounds, since a call of each takes as long as five
+/// choices, and see to their calls by themselves.
+fn revisings(
+    plan: &Plan,
+    buffers: &mut Buffers,
+) -> Result<(Vec<Revising>, revising::Agreement), String> {
+    let all = revising::all();
+    let agreement = revising::agreement(&all)?;
+    let plan = &Plan {
+        rounds: (plan.rounds / 4).max(1),
+        calls: 1,
+        ..*plan
+    };
+    let all = measured(plan, all, |revising| revising.measure(buffers));
+    Ok((all, agreement))
+}
+
+/// The readings, the writings, the listings, the viewings, the pickings, the sortings or the revisings, with their times.
 fn measured<T>(plan: &Plan, mut all: Vec<T>, mut measure: impl FnMut(&mut T)) -> Vec<T> {
     for _ in 0..plan.rounds {
         for one in &mut all {

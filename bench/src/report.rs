@@ -6,6 +6,7 @@ use crate::glpk;
 use crate::listing::{self, Listing};
 use crate::picking::{self, Picking};
 use crate::reading::{self, Reading};
+use crate::revising::{self, Revising};
 use crate::sorting::{self, Sorting};
 use crate::times::{digits, microseconds, milliseconds, Times};
 use crate::viewing::Viewing;
@@ -92,6 +93,14 @@ numbered anew: both are checked, and every byte of both forms is looked at. Plat
 (ascending: the outline is its own house form), or in the opposite one. The random trees, the balanced one, the caterpillars and the
 star are shaped as in the first table. A star of groups has 64 members under the root too, 62 of them groups of one taxon. The last
 calls are refused with 9.
+";
+
+const REVISING: &str = "\
+Microseconds. revise is `plates_revise`, choose one call of `plates_choose` on the given outline. The plain reviser is what a caller
+without `plates_revise` would write: `plates_choose`, a copy of the outline with the new length, `plates_choose` again. All are called
+in turn on the same buffers, after answers, movements, marks, curves and work were compared. The outlines are those of the first table,
+smaller ones and tree A. The record is by turns a taxon, a group and the root, and its branch by turns about twice and half as long;
+at the end random 1 is revised in one of these ways at a time.
 ";
 
 const BUILDS: &str = "\
@@ -515,6 +524,106 @@ fn sorting_row(sorting: &Sorting) -> Vec<String> {
     let mut row = vec![name, sorting.records.to_string()];
     row.extend(two_calls(&sorting.times, &sorting.check));
     row
+}
+
+type Ratio = fn(&Revising) -> Option<f64>;
+
+/// How many times as long as one choice a call takes, by its name.
+const BESIDE_ONE_CHOICE: [(&str, Ratio); 4] = [
+    ("revise / choose, shortest", |revising| {
+        Some(revising.plates.shortest()? / revising.choosing.shortest()?)
+    }),
+    ("revise / choose, medians", |revising| {
+        Some(revising.plates.median()? / revising.choosing.median()?)
+    }),
+    ("plain / choose, shortest", |revising| {
+        Some(revising.plain.shortest()? / revising.choosing.shortest()?)
+    }),
+    ("plain / choose, medians", |revising| {
+        Some(revising.plain.median()? / revising.choosing.median()?)
+    }),
+];
+
+pub fn revisings(revisings: &[Revising], agreement: &revising::Agreement) {
+    println!("### Revised lengths\n\n{REVISING}");
+    let mut head = words([
+        "outline",
+        "records",
+        "way",
+        "count",
+        "choose shortest",
+        "choose median",
+        "revise shortest",
+        "revise median",
+        "plain shortest",
+        "plain median",
+    ]);
+    head.extend(words(BESIDE_ONE_CHOICE.map(|(name, _)| name)));
+    let rows: Vec<_> = revisings.iter().map(revising_row).collect();
+    print_table(&head, &rows);
+    revising_ranges(revisings);
+    print_agreement("plain reviser", [agreement.answers, 0]);
+    let [fell, stayed, rose] = agreement.movements;
+    println!("Best diversities that fell: {fell}, stayed: {stayed}, rose: {rose}.\n");
+    greatest_revisings(revisings);
+}
+
+fn revising_row(revising: &Revising) -> Vec<String> {
+    let mut row = vec![
+        revising.name.clone(),
+        revising.records.to_string(),
+        way(revising.way),
+        revising.count.to_string(),
+    ];
+    for times in [&revising.choosing, &revising.plates, &revising.plain] {
+        let times = [times.shortest(), times.median()];
+        row.extend(times.map(|time| time.map_or(String::new(), microseconds)));
+    }
+    let ratios = BESIDE_ONE_CHOICE.map(|(_, ratio)| ratio(revising));
+    row.extend(ratios.map(|ratio| ratio.map_or(String::new(), digits)));
+    row
+}
+
+/// The least and the greatest ratios of each way, by growing count. A row has the counts above the one before.
+fn revising_ranges(revisings: &[Revising]) {
+    let mut head = words(["counts up to", "way"]);
+    head.extend(words(BESIDE_ONE_CHOICE.map(|(name, _)| name)));
+    let mut rows = Vec::new();
+    let mut from = 0;
+    for to in revising::COUNTS {
+        for number in 0..2 {
+            let mut of_row: Vec<&Revising> = revisings.iter().collect();
+            of_row.retain(|it| it.way == number && (from..=to).contains(&it.count));
+            let mut row = vec![to.to_string(), way(number)];
+            row.extend(BESIDE_ONE_CHOICE.map(|(_, ratio)| range(&of_row, ratio)));
+            rows.push(row);
+        }
+        from = to + 1;
+    }
+    print_table(&head, &rows);
+}
+
+fn range(revisings: &[&Revising], ratio: Ratio) -> String {
+    let ratios = || revisings.iter().filter_map(|revising| ratio(revising));
+    let ends = [f64::min, f64::max].map(|end| ratios().reduce(end));
+    ends.map(|end| end.map_or(String::new(), digits))
+        .join(" to ")
+}
+
+fn greatest_revisings(revisings: &[Revising]) {
+    for (name, ratio) in BESIDE_ONE_CHOICE {
+        let ratios = revisings.iter().filter_map(|it| Some((ratio(it)?, it)));
+        if let Some((greatest, at)) = ratios.max_by(|(one, _), (other, _)| one.total_cmp(other)) {
+            println!(
+                "Greatest {name}: {} ({}, {}, count {}).",
+                digits(greatest),
+                at.name,
+                WAYS[at.way as usize],
+                at.count
+            );
+        }
+    }
+    println!();
 }
 
 /// A ratio near 1.
