@@ -41,7 +41,7 @@ module _ (c : Call) where
   abbrev pub with_work : ℕ → Call
   with_work n = record { outline = c.outline; count = c.count; way = c.way; marks = c.marks; curve = c.curve; work = take n c.work }
 
-  -- those that it takes
+  -- where these are the numbers that it takes
   module _ (s : Solvable c) (n : ℕ) (taken : n ≡ work_taken c.outline c.count) where
     pub part_inside : n ≤ length c.work
     part_inside = omega (arith, s.searchable.work_long)

@@ -33,7 +33,7 @@ use Rattle.laws.proofs.Headings.{cost_opened}
 use Rattle.laws.proofs.Free.{free_chosen}
 use Rattle.choice.specs.Answer.{Call, Figures, no_figures, Answered, numbers_of, told, most_count, too_short, judged, is_selected}
 use Rattle.choice.specs.Answer.{best_set, figures, reply, curve_of, diversity_at, cost_at, marks_after, curve_after, work_after}
-use Rattle.choice.specs.Demands.{choose_table, SelectedOrRefused, marked_set, TrueOfMarks, Shown, some_set, no_set, TrueColumn, FoundBySearch}
+use Rattle.choice.specs.Demands.{choose_table, SelectedOrRefused, marked_set, TrueOfMarks, Shown, some_set, no_set, TrueColumn, FoundBySearch, CallAt}
 use Rattle.choice.proofs.Answers.{way_known, selected_solvable}
 use Rattle.choice.proofs.Solving.{curve_diversity, curve_cost}
 
@@ -172,7 +172,9 @@ module _ (c : Call) {r : Reply Figures} {marks curve work : List ℕ} (x : Answe
         → chosen (marked_set c marks) r ≡ true
     free_marked r l u t e = rw marked_is (free_chosen c.outline c.way c.count fit r l u t e)
 
--- so a call is told the best diversity of the exhaustive search
-pub best_told : (c : Call) {r : Reply Figures} {marks curve work : List ℕ} → Answered c r marks curve work → r.number ≡ 0
-    → r.figures.diversity ≡ best_diversity c.outline c.way c.count
-best_told c x z = let f = demand_3 c x z in f.diversity_is_shown ∙ (f.columns c.count (omega arith)).searched.0
+-- so a call is told the best diversity of the exhaustive search, whatever buffers it is lent
+pub best_told : {o : List ℕ} {count way : ℕ} {c : Call} → CallAt o count way c → {r : Reply Figures} {marks curve work : List ℕ}
+    → Answered c r marks curve work → r.number ≡ 0 → r.figures.diversity ≡ best_diversity o way count
+best_told {c = c} at x z =
+    let f = demand_3 c x z in
+    f.diversity_is_shown ∙ (f.columns c.count (omega arith)).searched.0 ∙ rw (at.outline_is, at.way_is, at.count_is)

@@ -69,3 +69,9 @@ pub record FoundBySearch (c : Call) (r : Reply Figures) (marks curve : List ℕ)
   pub cost_is_shown : r.figures.cost ≡ cost_at curve c.count
   pub others : (t : List ℕ) → IsSet c.outline t → Fits c.outline c.count t → t ≢ marked_set c marks
       → Behind c.outline c.way (marked_set c marks) t
+
+-- a call on an outline, at a page count and by a way, with whatever buffers
+pub record CallAt (o : List ℕ) (count way : ℕ) (c : Call) : Type 0 where
+  pub outline_is : c.outline ≡ o
+  pub count_is : c.count ≡ count
+  pub way_is : c.way ≡ way

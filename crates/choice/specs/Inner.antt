@@ -18,11 +18,11 @@ pub record WithinLimits (o : List ℕ) (count : ℕ) : Type 0 where
   pub records : size o ≤ most_records
   pub columns : count ≤ most_count
 
--- the rows of choosing, in their order: those of the way, the outline and the page count, and those of the lent buffers and the locked taxa
+-- the rows of choosing, in their order: first those of the way, the outline and the page count, then those of the lent buffers and the locked
+-- taxa, which do not go by the way
 unfoldable pub first_rows : List ℕ → ℕ → ℕ → Ruling
 first_rows o count way = row 1 (unknown way) ▸ size_rows o ▸ row 4 (ltb most_count count) ▸ record_rows o
 
--- (neither of the latter asks for the way)
 unfoldable pub last_rows : List ℕ → ℕ → List ℕ → List ℕ → List ℕ → Ruling
 last_rows o count marks curve work = row 9 (too_short (call o count 0 marks curve work)) ▸ row 12 (ltb count (cost o (locked_set o)))
 

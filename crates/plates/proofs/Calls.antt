@@ -77,9 +77,9 @@ module _ {c : quick.Call} {n : ℕ} {answer : List ℕ} {ceiling : ℕ} {marks :
     pub quickly_picked : quicks.PicksMade c (quickly_chosen_in ceiling answer) marks
     quickly_picked = picks_made c x.answered (sym x.number_given ∙ z)
 
-    pub quickly_between : {d : choose.Call} → quicks.SameChoice c d → {m : ℕ} {answer' marks' curve work : List ℕ}
+    pub quickly_between : {d : choose.Call} → choices.CallAt c.outline c.count 0 d → {m : ℕ} {answer' marks' curve work : List ℕ}
         → Chosen d m answer' marks' curve work → m ≡ 0 → quicks.BestBetween (quickly_chosen_in ceiling answer) (chosen_in answer')
-    quickly_between {d} same y e = best_between c x.answered (sym x.number_given ∙ z) d same y.answered (sym y.number_given ∙ e)
+    quickly_between at y e = best_between c x.answered (sym x.number_given ∙ z) at y.answered (sym y.number_given ∙ e)
 
     pub quickly_more : {d : quick.Call} → quicks.MorePicks c d → {m : ℕ} {answer' : List ℕ} {ceiling' : ℕ} {marks' : List ℕ}
         → QuicklyChosen d m answer' ceiling' marks' → m ≡ 0
@@ -125,9 +125,9 @@ module _ {c : revise.Call} {n : ℕ} {answer : List ℕ} {moved : List ℤ} {mar
     pub revised_from : {k : ℕ} {answer' marks' curve' work' : List ℕ} → Chosen (revise.old_choice c) k answer' marks' curve' work' → k ≡ 0
     revised_from y = y.number_given ∙ old_chosen c x.given.answered told_0 y.answered
 
-    pub revised_movements : {d : choose.Call} → revisions.SameChoice c d → {k : ℕ} {answer' marks' curve' work' : List ℕ}
+    pub revised_movements : {d : choose.Call} → choices.CallAt c.outline c.count c.way d → {k : ℕ} {answer' marks' curve' work' : List ℕ}
         → Chosen d k answer' marks' curve' work' → k ≡ 0 → revisions.MovementsTrue c (revised_in moved answer) (chosen_in answer')
-    revised_movements same y f = movements_true c x.given.answered told_0 same y.answered (sym y.number_given ∙ f)
+    revised_movements at y f = movements_true c x.given.answered told_0 at y.answered (sym y.number_given ∙ f)
 
 pub listed_decided : {c : sheet.Call} {n : ℕ} {answer lent : List ℕ} → SheetListed c n answer lent
     → sheets.ListedOrRefused c (listed_in answer) lent

@@ -18,16 +18,16 @@ use Rattle.refusals.proofs.Tables.{gives_then, gives_whole}
 use Rattle.outline.specs.Outline.{size, locked, IsRecord}
 use Rattle.outline.proofs.Demands.{sizes_give, records_give}
 use Rattle.diversity.specs.Diversity.{chosen, diversity, chosen_taxa}
-use Rattle.diversity.specs.Search.{best_diversity}
 use Rattle.laws.specs.Locks.{locked_set}
 use Rattle.laws.proofs.Locks.{held_each, locked_taxa}
 use Rattle.laws.proofs.Optimum.{greatest_diversity}
 use Rattle.choice.specs.Answer as choose
 use Rattle.choice.specs.declared.answer.Figures.{Figures as ChoiceFigures}
+use Rattle.choice.specs.Demands.{CallAt}
 use Rattle.choice.proofs.Demands.{none_decided, best_told}
 use Rattle.quick.specs.Quick.{quick}
 use Rattle.quick.specs.Answer.{Call, Figures, no_figures, Answered, numbers_of, told, most_picks, judged, quick_set, figures_of, reply, marks_after}
-use Rattle.quick.specs.Demands.{quick_table, ChosenOrRefused, marked_set, TrueChoice, PicksMade, SameChoice, BestBetween, MorePicks}
+use Rattle.quick.specs.Demands.{quick_table, ChosenOrRefused, marked_set, TrueChoice, PicksMade, BestBetween, MorePicks}
 use Rattle.quick.proofs.Answers.{outline_formed, locked_fit, quick_good}
 use Rattle.quick.proofs.Picking.{Picking, quick_picking, quick_rises}
 use Rattle.quick.proofs.Submodular.{ceiling_most}
@@ -47,9 +47,6 @@ module _ (c : Call) where
       (gives_then (records_give c.outline)
       (gives_then (gives_whole 8 (decides_less (length c.marks) (size c.outline)))
       (gives_whole 11 (none_decided c.outline 0 c.count))))))
-
-best_of : {c : Call} {d : choose.Call} → SameChoice c d → best_diversity d.outline d.way d.count ≡ best_diversity c.outline 0 c.count
-best_of same = rw (same.outline_is, same.rooted, same.count_is)
 
 module _ (c : Call) {r : Reply Figures} {marks : List ℕ} (x : Answered c r marks) where
   -- demand 1: a choice, or exactly one refusal of the table, under its condition only; a refusal leaves the marks
@@ -101,12 +98,12 @@ module _ (c : Call) {r : Reply Figures} {marks : List ℕ} (x : Answered c r mar
         made = quick_picking c.outline c.count (locked_fit c passes) c.picks
 
     -- the best diversity, as a call of `choose` is told it, is never below the choice's and never above its ceiling
-    pub best_between : (d : choose.Call) → SameChoice c d → {best : Reply ChoiceFigures} {marks' curve work : List ℕ}
+    pub best_between : {d : choose.Call} → CallAt c.outline c.count 0 d → {best : Reply ChoiceFigures} {marks' curve work : List ℕ}
         → choose.Answered d best marks' curve work → best.number ≡ 0 → BestBetween r best
-    best_between d same {best} y e =
+    best_between at {best} y e =
         let o = c.outline in
         let t = true_choice in
-        let shown = best_told d y e ∙ best_of same in
+        let shown = best_told at y e in
         record {
           least = omega (arith, t.diversity_true, greatest_diversity o 0 c.count (marked_set c marks) t.marked_is_set t.marked_fits, shown);
           most = omega (

@@ -60,12 +60,6 @@ pub record PicksMade (c : Call) (r : Reply Figures) (marks : List ℕ) : Type 0 
       → can_pick c.outline c.count (marked_set c marks) t ≡ false
 
 -- ---- beside the best
--- a call of `choose` on the same outline at the same page count, rooted
-pub record SameChoice (c : Call) (d : choose.Call) : Type 0 where
-  pub outline_is : d.outline ≡ c.outline
-  pub count_is : d.count ≡ c.count
-  pub rooted : d.way ≡ 0
-
 -- the best diversity lies from the quick choice's to its ceiling
 pub record BestBetween (r : Reply Figures) (best : Reply ChoiceFigures) : Type 0 where
   pub least : r.figures.diversity ≤ best.figures.diversity

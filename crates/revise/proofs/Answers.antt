@@ -156,7 +156,7 @@ module _ (c : Call) (h : Revisable c) where
     unfolding choose.figures
     new_figures = s.told_figures ∙ rw e
 
-    pub new_shown : choice.diversity ≡ new_best c
+    new_shown : choice.diversity ≡ new_best c
     new_shown = ap (λ (f : Choice). f.diversity) new_figures ∙ figures_best
 
     module _ {old from : ℕ} (d : old ≡ old_best c) (f : from ≡ branch c.outline c.changed) where

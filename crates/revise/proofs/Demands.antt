@@ -21,11 +21,11 @@ use Rattle.laws.proofs.Accepted.{formed_accepted}
 use Rattle.choice.specs.Answer as choose
 use Rattle.choice.specs.Answer.{too_short}
 use Rattle.choice.specs.declared.answer.Figures.{Figures as Choice}
-use Rattle.choice.specs.Demands.{TrueOfMarks, FoundBySearch}
+use Rattle.choice.specs.Demands.{TrueOfMarks, FoundBySearch, CallAt}
 use Rattle.choice.proofs.Demands.{none_decided, demand_2, demand_3, best_told}
 use Rattle.revise.specs.Revised.{revised}
-use Rattle.revise.specs.Answer.{Call, Figures, no_figures, new_outline, old_choice, new_choice, old_best, new_best, Answered, numbers_of, told, bad_revision, judged, figures, reply, marks_after, curve_after, work_after}
-use Rattle.revise.specs.Demands.{revise_table, RevisedOrRefused, LengthReplaced, SameSetsFit, choice_in, SameChoice, MovementsTrue}
+use Rattle.revise.specs.Answer.{Call, Figures, no_figures, new_outline, old_choice, new_choice, Answered, numbers_of, told, bad_revision, judged, figures, reply, marks_after, curve_after, work_after}
+use Rattle.revise.specs.Demands.{revise_table, RevisedOrRefused, LengthReplaced, SameSetsFit, choice_in, MovementsTrue}
 use Rattle.revise.specs.Inner.{Revisable}
 use Rattle.revise.proofs.Answers.{passed_revisable, old_selected, new_selected}
 use Rattle.revise.proofs.Bytes.{revised_length, byte_kept, new_length}
@@ -117,10 +117,9 @@ module _ (c : Call) {r : Reply Figures} {marks curve work : List ℕ} (x : Answe
     old_chosen y = ap (λ (a : Reply Choice). a.number) y.told_reply ∙ rw (old_selected c passes)
 
     -- the best diversity moved from what any call of `choose` on the given outline is told to what is told here
-    pub movements_true : {d : choose.Call} → SameChoice c d → {old : Reply Choice} {m k w : List ℕ}
+    pub movements_true : {d : choose.Call} → CallAt c.outline c.count c.way d → {old : Reply Choice} {m k w : List ℕ}
         → choose.Answered d old m k w → old.number ≡ 0 → MovementsTrue c r old
     unfolding figures
-    movements_true {d} same {old} y f =
-        let before : old.figures.diversity ≡ old_best c = best_told d y f ∙ rw (same.outline_is, same.way_is, same.count_is) in
-        let after : r.figures.choice.diversity ≡ new_best c = best_told (new_choice c) chosen z in
-        record { best_true = rw (before, after, told_is); length_true = rw told_is }
+    movements_true at {old} y f =
+        let own : CallAt (new_outline c) c.count c.way (new_choice c) = record { outline_is = refl; count_is = refl; way_is = refl } in
+        record { best_true = rw (best_told at y f, best_told own chosen z, told_is); length_true = rw told_is }

@@ -44,12 +44,6 @@ SameSetsFit o p = (b : ℕ) (s : List ℕ) → (IsSet o s × Fits o b s) ↔ (Is
 abbrev pub choice_in : Reply Figures → Reply Choice
 choice_in r = record { number = r.number; place = r.place; figures = r.figures.choice }
 
--- a call of `choose` on the given outline, at the same page count and by the same way, with whatever buffers
-pub record SameChoice (c : Call) (d : choose.Call) : Type 0 where
-  pub outline_is : d.outline ≡ c.outline
-  pub count_is : d.count ≡ c.count
-  pub way_is : d.way ≡ c.way
-
 -- what is told of the movements, where a choice on the given outline is told `old`: the best diversity that is told beside them, which is
 -- that of the revised outline, minus the old; and the new length minus the old
 pub record MovementsTrue (c : Call) (r : Reply Figures) (old : Reply Choice) : Type 0 where

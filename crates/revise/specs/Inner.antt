@@ -1,9 +1,8 @@
 -- What the functions behind `revise` speak of.
-use Rattle.std.specs.Prelude.{if◌then◌else◌, ℕ, ◌-◌, ◌≤◌, ◌≡◌, Bool, ◌&&◌, List, length, replicate, eqb}
+use Rattle.std.specs.Prelude.{ℕ, ◌≤◌, ◌≡◌, List, length, replicate}
 use Rattle.lists.specs.Lists.{over}
 use Rattle.outline.specs.Outline.{IsRecord}
 use Rattle.outline.specs.Rules.{most_length}
-use Rattle.diversity.specs.Diversity.{within, elsewhere}
 use Rattle.choice.specs.Answer.{best_set, curve_of}
 use Rattle.choice.specs.Inner.{Solvable}
 use Rattle.revise.specs.Moved.{MovesWith}
