@@ -11,10 +11,11 @@ use crate::library::{
 use crate::outline::{self, is_preorder, Record, LOCK};
 use crate::quick::QuickExpected;
 use crate::reading::ReadExpected;
-use crate::revise::ReviseExpected;
+use crate::revise::{ReviseCall, ReviseExpected};
 use crate::rules::{self, Refusal};
 use crate::same_tree::are_same;
-use crate::sheet::SheetExpected;
+use crate::sheet::{self, SheetExpected};
+use crate::spanning::Branch;
 use crate::view::ViewExpected;
 use crate::writing::WriteExpected;
 
@@ -364,6 +365,81 @@ pub fn beyond_length(observed: &ReviseObserved) -> Option<String> {
     let holds = best.unsigned_abs() <= length.unsigned_abs()
         && (best == 0 || best.signum() == length.signum());
     (!holds).then(|| format!("moved: the best by {best}, the length by {length}"))
+}
+
+/// Where the set chosen before, by its marks, is promised to stay and a revision does otherwise (document 02, §11): where the best
+/// does not move as that set's diversity does, another set is marked, or the answer is not that set's. Nothing is said of a refusal.
+pub fn beside_old_set(call: &ReviseCall, old: &[u8], observed: &ReviseObserved) -> Vec<String> {
+    let branch = Branch::of(call, old);
+    if !branch.stays() || observed.chosen.returned != 0 {
+        return Vec::new();
+    }
+    let after = &observed.chosen.after;
+    let (best, marks) = (observed.moved()[0], after.marks.content().get(..old.len()));
+    let records = outline::records(&call.revised().outline);
+    let [cost, diversity] = sheet::sums(&records, call.given.way, old);
+    let answer = [diversity, cost, sheet::chosen(&records, old).len() as u32];
+    let told = &after.answer.content()[2..5];
+    let differences = [
+        (best != branch.own()).then(|| format!("the best moved by {best}")),
+        (marks != Some(old)).then(|| format!("{marks:?} is chosen")),
+        (told != answer)
+            .then(|| format!("diversity, cost, taxa: expected {answer:?}, got {told:?}")),
+    ];
+    let spans = if branch.is_spanned {
+        "spans"
+    } else {
+        "does not span"
+    };
+    let before = format!(
+        "{old:?} before {spans} a branch moved by {}",
+        branch.difference
+    );
+    let differences = differences.into_iter().flatten();
+    differences
+        .map(|text| format!("{before}: {text}"))
+        .collect()
+}
+
+/// Where a revision in the buffers that a choice from the outline before has left does not go with one in the buffers as they were
+/// before that choice, or, where the set is promised to stay, with what the choice has left: every byte of the marks, and the answer
+/// but for the diversity.
+pub fn after_choice(
+    call: &ReviseCall,
+    old: &ChooseObserved,
+    fresh: &ReviseObserved,
+    observed: &ReviseObserved,
+) -> Vec<String> {
+    let (after, apart) = (&observed.chosen.after, &fresh.chosen.after);
+    let differences = [
+        returned(fresh.chosen.returned, observed.chosen.returned),
+        difference("answer", &apart.answer, &after.answer, &[]),
+        difference("marks", &apart.marks, &after.marks, &[]),
+        difference("curve", &apart.curve, &after.curve, &[]),
+        difference("work", &apart.work, &after.work, &[]),
+        difference("moved", &fresh.moved_after, &observed.moved_after, &[]),
+    ];
+    let differences = differences.into_iter().flatten();
+    differences
+        .chain(not_left(call, old, observed))
+        .map(|text| format!("after plates_choose: {text}"))
+        .collect()
+}
+
+fn not_left(call: &ReviseCall, old: &ChooseObserved, observed: &ReviseObserved) -> Vec<String> {
+    let after = &observed.chosen.after;
+    let branch = Branch::of(call, old.marks(call.records()));
+    if !branch.stays() {
+        return Vec::new();
+    }
+    let mut answer = old.after.answer.clone();
+    let best = &mut answer.cells[answer.start + 2];
+    *best = (i64::from(*best) + branch.own()) as u32;
+    let differences = [
+        difference("answer that stays", &answer, &after.answer, &[]),
+        difference("marks that stay", &old.after.marks, &after.marks, &[]),
+    ];
+    differences.into_iter().flatten().collect()
 }
 
 #[cfg(test)]
@@ -999,8 +1075,9 @@ mod tests {
         }
     }
 
-    /// Record 3 of tree A without length, by a right program, in buffers of these lengths.
-    fn revising(marks: usize, curve: usize, work: usize) -> (ReviseExpected, ReviseObserved) {
+    /// A record of tree A with this length, by a right program, in buffers of these lengths.
+    fn revised(record: u32, length: u32, buffers: [usize; 3]) -> (ReviseCall, ReviseObserved) {
+        let [marks, curve, work] = buffers;
         let given = Call {
             outline: bytes(&cases::tree_a()),
             count: 5,
@@ -1009,7 +1086,6 @@ mod tests {
             curve,
             work,
         };
-        let (record, length) = (3, 0);
         let call = ReviseCall {
             given,
             record,
@@ -1017,6 +1093,12 @@ mod tests {
         };
         let before = ReviseBuffers::random(&call, &mut Random::new(12));
         let observed = wrong_revisions::RIGHT.run()(&call, before);
+        (call, observed)
+    }
+
+    /// Record 3 without length.
+    fn revising(marks: usize, curve: usize, work: usize) -> (ReviseExpected, ReviseObserved) {
+        let (call, observed) = revised(3, 0, [marks, curve, work]);
         (revise::expected(&call, expect::by_table).0, observed)
     }
 
@@ -1107,6 +1189,143 @@ mod tests {
         ] {
             observed.moved_after.write(&moved);
             assert_eq!(beyond_length(&observed).is_none(), holds, "{moved:?}");
+        }
+    }
+
+    /// Of {3, 5}, which is the best of tree A before.
+    const OLD: [u8; 5] = [0, 0, 1, 0, 1];
+    /// Records and lengths with which {3, 5} is promised to stay: it spans record 3 and the root, and not record 4.
+    const KEPT: [[u32; 2]; 5] = [[3, 9], [3, 4], [1, 7], [4, 0], [4, 2]];
+    /// And with which nothing is promised.
+    const NOT_KEPT: [[u32; 2]; 4] = [[3, 3], [3, 0], [4, 3], [4, 9]];
+
+    /// Each of these, and whether it is promised.
+    fn kept_or_not() -> Vec<(bool, [u32; 2])> {
+        let kept = KEPT.map(|of| (true, of));
+        kept.into_iter()
+            .chain(NOT_KEPT.map(|of| (false, of)))
+            .collect()
+    }
+
+    type Alter = fn(&mut ReviseObserved);
+
+    fn alter_answer(observed: &mut ReviseObserved, at: usize) {
+        let answer = &mut observed.chosen.after.answer;
+        answer.cells[answer.start + at] ^= 1;
+    }
+
+    /// The record's mark is the other one.
+    fn alter_mark(observed: &mut ReviseObserved, record: usize) {
+        let marks = &mut observed.chosen.after.marks;
+        marks.cells[marks.start + record - 1] ^= 1;
+    }
+
+    #[test]
+    fn a_revision_that_does_not_keep_the_old_set_is_noticed_where_that_is_promised() {
+        let alter: [Alter; 7] = [
+            |o| o.moved_after.cells[o.moved_after.start] ^= 1,
+            |o| alter_mark(o, 1),
+            |o| alter_mark(o, 3),
+            |o| alter_mark(o, 4),
+            |o| alter_answer(o, 2),
+            |o| alter_answer(o, 3),
+            |o| alter_answer(o, 4),
+        ];
+        let altered = |observed: &ReviseObserved, alter: Alter| {
+            let mut altered = observed.clone();
+            alter(&mut altered);
+            altered
+        };
+        for (promised, [record, length]) in kept_or_not() {
+            let (call, observed) = revised(record, length, [9, 20, 200]);
+            let found = |observed: &ReviseObserved| beside_old_set(&call, &OLD, observed);
+            assert_eq!(found(&observed), [""; 0]);
+            for alter in alter {
+                let mut altered = altered(&observed, alter);
+                assert_eq!(found(&altered).len(), usize::from(promised));
+                altered.chosen.returned = 9;
+                assert_eq!(found(&altered), [""; 0]);
+            }
+            // a mark that stands for no record
+            assert_eq!(found(&altered(&observed, |o| alter_mark(o, 6))), [""; 0]);
+        }
+    }
+
+    #[test]
+    fn what_does_not_keep_the_old_set_is_said() {
+        let (call, mut observed) = revised(3, 9, [9, 20, 200]);
+        observed.moved_after.write(&[4]);
+        let before = "[0, 0, 1, 0, 1] before spans a branch moved by 5";
+        let text = format!("{before}: the best moved by 4");
+        assert_eq!(beside_old_set(&call, &OLD, &observed), [text]);
+        observed.moved_after.write(&[5]);
+        alter_answer(&mut observed, 2);
+        let text = format!("{before}: diversity, cost, taxa: expected [17, 5, 2], got [16, 5, 2]");
+        assert_eq!(beside_old_set(&call, &OLD, &observed), [text]);
+    }
+
+    /// A choice from tree A, and a right program's revision in the buffers as that leaves them.
+    fn after_choosing(
+        call: &ReviseCall,
+        fresh: &ReviseObserved,
+    ) -> (ChooseObserved, ReviseObserved) {
+        let old = library::choose_in(5, 0, fresh.chosen.before.clone());
+        let before = ReviseBuffers {
+            choice: old.after.clone(),
+            moved: fresh.moved_before.clone(),
+        };
+        let again = wrong_revisions::RIGHT.run()(call, before);
+        (old, again)
+    }
+
+    #[test]
+    fn a_revision_after_a_choice_that_does_not_go_with_one_in_fresh_buffers_is_noticed() {
+        let alter: [Alter; 6] = [
+            |o| o.chosen.returned = 9,
+            |o| alter_answer(o, 1),
+            |o| alter_mark(o, 1),
+            |o| o.chosen.after.curve.cells[o.chosen.after.curve.start] ^= 1,
+            |o| o.chosen.after.work.cells[o.chosen.after.work.start] ^= 1,
+            |o| o.moved_after.write(&[0, 0]),
+        ];
+        for [record, length] in NOT_KEPT {
+            let (call, fresh) = revised(record, length, [9, 20, 200]);
+            let (old, again) = after_choosing(&call, &fresh);
+            assert_eq!(after_choice(&call, &old, &fresh, &again), [""; 0]);
+            for alter in alter {
+                let mut altered = again.clone();
+                alter(&mut altered);
+                assert_eq!(after_choice(&call, &old, &fresh, &altered).len(), 1);
+                // where nothing is promised, what is wrong in fresh buffers too is not noticed here
+                let mut both = fresh.clone();
+                alter(&mut both);
+                assert_eq!(after_choice(&call, &old, &both, &altered), [""; 0]);
+            }
+        }
+    }
+
+    #[test]
+    fn a_revision_after_a_choice_that_does_not_leave_what_is_to_stay_is_noticed() {
+        let alter: [Alter; 7] = [
+            |o| alter_mark(o, 1),
+            // the last mark, which stands for no record
+            |o| alter_mark(o, 9),
+            |o| alter_answer(o, 0),
+            |o| alter_answer(o, 2),
+            |o| alter_answer(o, 3),
+            |o| alter_answer(o, 4),
+            |o| alter_answer(o, 5),
+        ];
+        for [record, length] in KEPT {
+            let (call, fresh) = revised(record, length, [9, 20, 200]);
+            let (old, again) = after_choosing(&call, &fresh);
+            assert_eq!(after_choice(&call, &old, &fresh, &again), [""; 0]);
+            for alter in alter {
+                let [mut both, mut altered] = [fresh.clone(), again.clone()];
+                alter(&mut both);
+                alter(&mut altered);
+                assert_eq!(after_choice(&call, &old, &both, &altered).len(), 1);
+            }
         }
     }
 }

@@ -11,10 +11,11 @@ use crate::outline::{bytes, Record};
 use crate::quick_runs::fill_for_ties;
 use crate::random::Random;
 use crate::report::Stop;
-use crate::revise::{self, ReviseCall, ReviseExpected};
-use crate::revise_runs::{near_length, outline_of_many_lengths};
+use crate::revise::{self, ReviseCall, ReviseExpected, Revised};
+use crate::revise_runs::{beside_old_choices, near_length, outline_of_many_lengths};
 use crate::runs::{small_outline, Runner, WAYS};
 use crate::shapes;
+use crate::spanning::Tally;
 
 /// Every record of every shape of up to so many records is walked.
 const SMALL: usize = 5;
@@ -56,6 +57,8 @@ struct Walk<'a> {
 struct Compared {
     call: ReviseCall,
     expected: ReviseExpected,
+    /// What a choice before gives; nothing on a refusal.
+    old: Option<Expected>,
     comparison: Comparison,
 }
 
@@ -74,19 +77,17 @@ impl Walk<'_> {
         let mut so_far = [0, 0];
         for &length in self.lengths.iter().chain([&own]) {
             let step = self.call(&records, length, rng);
-            let expected = by_subsets(&step, &mut solved, rng);
+            let revised = by_subsets(&step, &mut solved, rng);
             let observed = reviser(&step, ReviseBuffers::random(&step, rng));
             so_far = [0, 1].map(|at| observed.moved()[at].wrapping_add(so_far[at]));
             let direct = self.call(self.records, length, rng);
-            let together = ReviseExpected {
-                moved: so_far,
-                ..by_subsets(&direct, &mut solved, rng)
-            };
+            let (mut together, old) = by_subsets(&direct, &mut solved, rng);
+            together.moved = so_far;
             let at_once = reviser(&direct, ReviseBuffers::random(&direct, rng));
             records[self.at].length = length;
             steps.push([
-                compared(step, expected, &observed),
-                compared(direct, together, &at_once),
+                compared(step, revised, &observed),
+                compared(direct, (together, old), &at_once),
             ]);
             if observed.chosen.returned != 0 {
                 break;
@@ -104,21 +105,25 @@ impl Walk<'_> {
     }
 }
 
-fn by_subsets(call: &ReviseCall, solved: &mut Solved, rng: &mut Random) -> ReviseExpected {
+fn by_subsets(call: &ReviseCall, solved: &mut Solved, rng: &mut Random) -> Revised {
     let solve = |call: &Call| {
         let entry = solved.entry(call.outline.clone());
         entry
             .or_insert_with(|| by_exhaustive_search(call, rng))
             .clone()
     };
-    revise::expected(call, solve).0
+    revise::expected(call, solve)
 }
 
-fn compared(call: ReviseCall, expected: ReviseExpected, observed: &ReviseObserved) -> Compared {
+fn compared(call: ReviseCall, (expected, old): Revised, observed: &ReviseObserved) -> Compared {
+    let mut comparison = compare::revise(&expected, observed);
+    let differences = beside_old_choices(&call, old.as_ref(), observed);
+    comparison.differences.extend(differences);
     Compared {
-        comparison: compare::revise(&expected, observed),
-        expected,
         call,
+        expected,
+        old,
+        comparison,
     }
 }
 
@@ -132,6 +137,8 @@ struct Met {
     /// Walks on which the best never moves.
     still: u64,
     refused: u64,
+    /// Of every call, from the outline as it is by then and from the first one.
+    beside_old: Tally,
 }
 
 impl Met {
@@ -139,6 +146,10 @@ impl Met {
         let expected: Vec<&ReviseExpected> = steps.iter().map(|[step, _]| &step.expected).collect();
         for expected in &expected {
             self.add_step(expected.moved);
+        }
+        for compared in steps.iter().flatten() {
+            let old = compared.old.as_ref();
+            self.beside_old.add(&compared.call, &compared.expected, old);
         }
         let marks = |expected: &&ReviseExpected| expected.choice.marks.clone();
         let mut sets: Vec<Vec<u8>> = expected.iter().map(marks).collect();
@@ -197,6 +208,7 @@ impl Runner {
              counts up to {SMALL_COUNT}, given lengths one after another and its own again, against every subset"
         ));
         self.report.met("with", &met.named(), outlines / 10);
+        met.beside_old.report(&mut self.report, outlines / 10);
         Ok(())
     }
 
@@ -232,6 +244,7 @@ impl Runner {
                     call,
                     expected,
                     comparison,
+                    ..
                 } = compared;
                 self.add_revision(&call, &expected, &comparison)?;
             }
@@ -240,7 +253,7 @@ impl Runner {
     }
 }
 
-fn some_small_outline(rng: &mut Random) -> (Vec<Record>, u32) {
+pub(crate) fn some_small_outline(rng: &mut Random) -> (Vec<Record>, u32) {
     if rng.one_in(2) {
         small_outline(rng)
     } else {
@@ -322,6 +335,8 @@ mod tests {
             "the old curve left",
             "the last work number left",
             "the movement left on a refusal by 12",
+            "one less where a spanned length rises",
+            "a tie broken otherwise",
         ]) {
             assert!(noticed(&program.run()) > 3, "{name}");
         }

@@ -41,6 +41,7 @@ pub mod shapes;
 pub mod sheet;
 pub mod sheet_cases;
 mod sheet_runs;
+pub mod spanning;
 pub mod spell;
 mod stated_runs;
 pub mod table;

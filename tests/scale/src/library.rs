@@ -225,6 +225,13 @@ pub struct ChooseObserved {
     pub after: Buffers,
 }
 
+impl ChooseObserved {
+    /// The marks of so many records.
+    pub fn marks(&self, records: usize) -> &[u8] {
+        &self.after.marks.content()[..records]
+    }
+}
+
 pub fn guarded_choose(call: &Call, rng: &mut Random) -> ChooseObserved {
     choose_in(call.count, call.way, Buffers::random(call, rng))
 }

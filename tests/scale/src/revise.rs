@@ -22,6 +22,11 @@ impl ReviseCall {
         RECORD_BYTES * (self.record as usize - 1) + 4
     }
 
+    /// How many whole records there are.
+    pub fn records(&self) -> usize {
+        self.given.outline.len() / RECORD_BYTES
+    }
+
     /// The length before, by its four bytes, low byte first.
     pub fn old_length(&self) -> u32 {
         let bytes = &self.given.outline[self.place()..][..4];

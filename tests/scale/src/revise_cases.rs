@@ -1,4 +1,4 @@
-//! Revisions worked by hand. They are ours: document 02, §10, states the rule and no case.
+//! Revisions worked by hand. They are ours: document 02, §10 and §11, states the rules and no case.
 
 use crate::call::{needed, Call};
 use crate::cases::{case_g, curve_of_g, group, taxon, tree_a, tree_b, tree_c, tree_d};
@@ -115,11 +115,13 @@ impl Revisions {
 pub fn all() -> Vec<ReviseCase> {
     let mut all = rooted();
     all.extend(unrooted());
+    all.extend(of_the_root());
     all.extend(other_counts());
     all.extend(of_every_size());
     all.extend(a_group_of_one());
     all.extend(single());
     all.extend(ties());
+    all.extend(ties_of_three());
     all.extend(one_against_two());
     all.extend(no_lengths());
     all.extend(with_locks());
@@ -167,6 +169,7 @@ fn rooted() -> Vec<ReviseCase> {
         // {4, 5} is as good as {3, 5} now and costs less
         tree.of(4, 4, &[[1, 7], [3, 12]], &[4, 5], [0, 2]),
         tree.of(4, 5, &[[1, 8], [3, 13]], &[4, 5], [1, 3]),
+        tree.of(4, 9, &[[1, 12], [3, 17]], &[4, 5], [5, 7]),
         // {3, 5} is as good as {3, 4} and costs more
         tree.of(5, 2, &[[1, 5], [3, 7], [4, 9]], &[3, 4], [-3, -3]),
         tree.of(5, 0, &[[1, 5], [3, 7], [4, 9]], &[3, 4], [-3, -5]),
@@ -205,7 +208,32 @@ fn unrooted() -> Vec<ReviseCase> {
         tree.of(3, 0, without_3, &[4, 5], [-2, -4]),
         tree.of(4, 0, &[[3, 8], [5, 12]], &[3, 5], [0, -2]),
         tree.of(4, 5, &[[3, 13]], &[4, 5], [1, 3]),
+        tree.of(4, 9, &[[3, 17]], &[4, 5], [5, 7]),
         tree.of(5, 0, &[[3, 5], [4, 6], [5, 7]], &[3, 5], [-5, -5]),
+    ]
+}
+
+/// Tree A with a length of 6 at the root, which any set spans rooted, and none unrooted.
+fn of_the_root() -> Vec<ReviseCase> {
+    let tree = |count, way| {
+        let mut tree = tree_a_at(count, way);
+        tree.records[0].length = 6;
+        tree
+    };
+    let unrooted: &[[u32; 2]] = &[[3, 10], [5, 12]];
+    let shorter: &[[u32; 2]] = &[[1, 5], [3, 10], [5, 12]];
+    let as_before: &[[u32; 2]] = &[[1, 11], [3, 16], [5, 18]];
+    let longer: &[[u32; 2]] = &[[1, 15], [3, 20], [5, 22]];
+    vec![
+        tree(5, ROOTED).of(1, 0, shorter, &[3, 5], [-6, -6]),
+        tree(5, ROOTED).of(1, 6, as_before, &[3, 5], [0, 0]),
+        tree(5, ROOTED).of(1, 10, longer, &[3, 5], [4, 4]),
+        tree(5, UNROOTED).of(1, 0, unrooted, &[3, 5], [0, -6]),
+        tree(5, UNROOTED).of(1, 6, unrooted, &[3, 5], [0, 0]),
+        tree(5, UNROOTED).of(1, 10, unrooted, &[3, 5], [0, 4]),
+        // nothing is chosen
+        tree(0, ROOTED).of(1, 0, &[], &[], [0, -6]),
+        tree(0, ROOTED).of(1, 10, &[], &[], [0, 4]),
     ]
 }
 
@@ -338,6 +366,8 @@ fn ties() -> Vec<ReviseCase> {
         way,
     };
     let one = |diversity| [[1, diversity]];
+    let [mut lower, mut higher] = [(); 2].map(|()| tree(1, ROOTED));
+    (lower.records[1].length, higher.records[2].length) = (5, 5);
     vec![
         tree(1, ROOTED).of(2, 4, &one(4), &[2], [0, 0]),
         tree(1, ROOTED).of(3, 4, &one(4), &[2], [0, 0]),
@@ -349,6 +379,42 @@ fn ties() -> Vec<ReviseCase> {
         tree(2, UNROOTED).of(2, 0, &[[2, 4]], &[2, 3], [-4, -4]),
         tree(2, UNROOTED).of(3, 6, &[[2, 10]], &[2, 3], [2, 2]),
         tree(1, UNROOTED).of(3, 6, &[], &[], [0, 2]),
+        // a tie that is made, for the lower record
+        lower.of(2, 4, &one(4), &[2], [-1, -1]),
+        lower.of(3, 5, &one(5), &[2], [0, 1]),
+        higher.of(3, 4, &one(4), &[2], [-1, -1]),
+        higher.of(2, 5, &one(5), &[2], [0, 1]),
+        higher.of(3, 6, &one(6), &[3], [1, 1]),
+        higher.of(2, 0, &one(5), &[3], [0, -4]),
+    ]
+}
+
+/// Three taxa of length 4 and price 1, records 2 to 4, of which the first two are chosen.
+fn ties_of_three() -> Vec<ReviseCase> {
+    let tree = |way| Revisions {
+        name: "three taxa",
+        records: vec![
+            group(0, 2, 0),
+            taxon(3, 4, 1, 11),
+            taxon(4, 4, 1, 12),
+            taxon(0, 4, 1, 13),
+        ],
+        count: 2,
+        way,
+    };
+    let one_and_two = |one, two| [[1, one], [2, two]];
+    let two = |diversity| [[2, diversity]];
+    vec![
+        tree(ROOTED).of(3, 5, &one_and_two(5, 9), &[2, 3], [1, 1]),
+        tree(ROOTED).of(4, 3, &one_and_two(4, 8), &[2, 3], [0, -1]),
+        tree(ROOTED).of(4, 5, &one_and_two(5, 9), &[2, 4], [1, 1]),
+        tree(ROOTED).of(2, 3, &one_and_two(4, 8), &[3, 4], [0, -1]),
+        tree(UNROOTED).of(3, 5, &two(9), &[2, 3], [1, 1]),
+        tree(UNROOTED).of(3, 4, &two(8), &[2, 3], [0, 0]),
+        tree(UNROOTED).of(4, 3, &two(8), &[2, 3], [0, -1]),
+        tree(UNROOTED).of(4, 4, &two(8), &[2, 3], [0, 0]),
+        tree(UNROOTED).of(4, 5, &two(9), &[2, 4], [1, 1]),
+        tree(UNROOTED).of(2, 3, &two(8), &[3, 4], [0, -1]),
     ]
 }
 
@@ -404,13 +470,19 @@ fn with_locks() -> Vec<ReviseCase> {
     let from_3 = |diversity| [[3, diversity]];
     vec![
         tree(&[3], 3, ROOTED).of(3, 0, &from_3(3), &[3], [-4, -4]),
+        tree(&[3], 3, ROOTED).of(3, 9, &from_3(12), &[3], [5, 5]),
         tree(&[3], 3, ROOTED).of(2, 0, &from_3(4), &[3], [-3, -3]),
         tree(&[3], 3, ROOTED).of(5, 1_000, &from_3(7), &[3], [0, 995]),
         tree(&[3], 3, UNROOTED).of(3, 9, &from_3(0), &[3], [0, 5]),
+        tree(&[3], 3, UNROOTED).of(3, 0, &from_3(0), &[3], [0, -4]),
         tree(&[3], 5, ROOTED).of(3, 0, &[[3, 3], [4, 5], [5, 8]], &[3, 5], [-4, -4]),
         tree(&[3], 5, ROOTED).of(4, 9, &[[3, 7], [4, 16]], &[3, 4], [4, 7]),
+        tree(&[3], 5, ROOTED).of(4, 0, &[[3, 7], [5, 12]], &[3, 5], [0, -2]),
+        tree(&[3], 4, ROOTED).of(2, 0, &[[3, 4], [4, 6]], &[3, 4], [-3, -3]),
         // below record 2 alone, so that its branch does not count
         tree(&[3], 4, UNROOTED).of(2, 50, &[[3, 0], [4, 6]], &[3, 4], [0, 47]),
+        tree(&[3], 4, UNROOTED).of(2, 0, &[[3, 0], [4, 6]], &[3, 4], [0, -3]),
+        tree(&[3], 4, UNROOTED).of(3, 9, &[[3, 0], [4, 11]], &[3, 4], [5, 5]),
         tree(&[3], 4, UNROOTED).of(4, 0, &[[3, 0], [4, 4]], &[3, 4], [-2, -2]),
         tree(&[3, 4, 5], 6, ROOTED).of(4, 0, &[[6, 12]], &[3, 4, 5], [-2, -2]),
     ]

@@ -6,17 +6,18 @@ use crate::damage::{repeat_plate, some_way};
 use crate::expect::{self, by_exhaustive_search, is_small, Expected};
 use crate::headings;
 use crate::length_walks::{moves, Part};
-use crate::library::{self, ReviseObserved};
+use crate::library::{self, Buffers, ChooseObserved, ReviseBuffers, ReviseObserved, Reviser};
 use crate::locks;
 use crate::outline::{self, bytes, is_preorder, members, taxa, Record, LOCK, ROOTED, UNROOTED};
 use crate::quick_runs::{some_count, some_outline};
 use crate::random::Random;
 use crate::report::{shell_line, Stop};
 use crate::revise::{self, is_bad, ReviseCall, ReviseExpected, MOST_LENGTH};
-use crate::revise_cases;
+use crate::revise_cases::{self, ReviseCase};
 use crate::rules;
 use crate::runs::Runner;
 use crate::shapes;
+use crate::spanning::Tally;
 use crate::text_runs::{on_small_stack, SMALL_STACK};
 use crate::view_pairs::Kind;
 use crate::view_runs::{count, named};
@@ -339,6 +340,7 @@ struct Met {
     by_subsets: u64,
     /// How often the library chose before and after, and how often it refused both times.
     beside: [u64; 2],
+    beside_old: Tally,
 }
 
 impl Met {
@@ -349,6 +351,8 @@ impl Met {
         self.by_subsets += u64::from(revising.by_subsets.is_some());
         self.beside[0] += u64::from(number == 0);
         self.beside[1] += u64::from(number == 9 || number == 12);
+        let Revising { call, expected, .. } = revising;
+        self.beside_old.add(call, expected, revising.old.as_ref());
     }
 
     fn named(&self) -> [(&'static str, u64); 3] {
@@ -366,6 +370,27 @@ impl Runner {
         let observed = library::guarded_revise(call, &mut self.rng);
         let mut comparison = compare::revise(expected, &observed);
         comparison.differences.extend(beside(revising, &observed));
+        self.add_revision(call, expected, &comparison)?;
+        if revising.is(0) {
+            self.revise_after_choice(revising, &observed)?;
+        }
+        Ok(())
+    }
+
+    /// As a program does that chooses first and then revises in the same buffers.
+    fn revise_after_choice(
+        &mut self,
+        revising: &Revising,
+        fresh: &ReviseObserved,
+    ) -> Result<(), Stop> {
+        let Revising { call, expected, .. } = revising;
+        let (old, observed) = after_choice(&library::revise, call, fresh);
+        let mut comparison = compare::revise(expected, &observed);
+        let differences = compare::after_choice(call, &old, fresh, &observed);
+        comparison.differences.extend(differences);
+        comparison
+            .differences
+            .extend(beside_old(revising, &observed));
         self.add_revision(call, expected, &comparison)
     }
 
@@ -386,6 +411,7 @@ impl Runner {
             kinds: [0; KINDS.len()],
             by_subsets: 0,
             beside: [0; 2],
+            beside_old: Tally::default(),
         };
         for _ in 0..calls {
             let call = some_call(&mut self.rng);
@@ -394,8 +420,8 @@ impl Runner {
             self.revise(&revising)?;
         }
         self.report.line(&format!(
-            "F. {calls} revised lengths against the table and, where they are few, every subset, and beside what the library \
-             chooses before and after"
+            "F. {calls} revised lengths against the table and, where they are few, every subset, beside what the library \
+             chooses before and after, and again in the buffers as the choice before leaves them"
         ));
         self.report
             .refusals("a revision", &REFUSALS, &met.numbers, calls / 200);
@@ -404,22 +430,28 @@ impl Runner {
         self.report
             .met("with", &named(&KINDS, met.kinds), calls / 2_000);
         self.report.met("compared", &met.named(), calls / 20);
+        met.beside_old.report(&mut self.report, calls / 2_000);
         Ok(())
     }
 
     /// What is given is as stated, and little stack is there for it.
     pub(crate) fn stated_revisions(&mut self) -> Result<(), Stop> {
         self.start('H');
-        let cases = revise_cases::all();
-        for case in &cases {
-            let observed = on_small_stack(|| library::guarded_revise(&case.call, &mut self.rng));
-            let comparison = compare::revise(&case.expected, &observed);
-            self.add_revision(&case.call, &case.expected, &comparison)?;
+        let (cases, mut beside_old) = (revise_cases::all(), Tally::default());
+        for ReviseCase { call, expected, .. } in &cases {
+            let observed = on_small_stack(|| library::guarded_revise(call, &mut self.rng));
+            let (_, old) = revise::expected(call, expect::by_table);
+            beside_old.add(call, expected, old.as_ref());
+            let mut comparison = compare::revise(expected, &observed);
+            let differences = beside_old_choices(call, old.as_ref(), &observed);
+            comparison.differences.extend(differences);
+            self.add_revision(call, expected, &comparison)?;
         }
         self.report.line(&format!(
             "H. {} revisions worked by hand, on a stack of {SMALL_STACK} bytes",
             cases.len()
         ));
+        beside_old.report(&mut self.report, 1);
         Ok(())
     }
 }
@@ -443,18 +475,59 @@ fn beside(revising: &Revising, observed: &ReviseObserved) -> Vec<String> {
     if [0, 9, 12].contains(&expected.number()) {
         differences.extend(beside_library(call, observed));
     }
+    differences.extend(beside_old(revising, observed));
     differences
 }
 
 /// The library chooses in buffers that are as they were before the call.
 fn beside_library(call: &ReviseCall, observed: &ReviseObserved) -> Vec<String> {
-    let (count, way) = (call.given.count, call.given.way);
     let mut buffers = observed.chosen.before.clone();
-    let old = library::choose_in(count, way, buffers.clone());
+    let old = old_choice(call, &buffers);
     buffers.outline.write(&call.revised().outline);
-    let new = library::choose_in(count, way, buffers);
+    let new = library::choose_in(call.given.count, call.given.way, buffers);
     let mut differences = compare::beside_choices(observed, &old, &new);
     differences.extend(compare::beyond_length(observed));
+    differences
+}
+
+/// What the library chooses from the outline before, in buffers as they were before the call.
+fn old_choice(call: &ReviseCall, buffers: &Buffers) -> ChooseObserved {
+    library::choose_in(call.given.count, call.given.way, buffers.clone())
+}
+
+/// That choice, and the call in the buffers as it leaves them.
+fn after_choice(
+    reviser: Reviser,
+    call: &ReviseCall,
+    fresh: &ReviseObserved,
+) -> (ChooseObserved, ReviseObserved) {
+    let old = old_choice(call, &fresh.chosen.before);
+    let before = ReviseBuffers {
+        choice: old.after.clone(),
+        moved: fresh.moved_before.clone(),
+    };
+    let again = reviser(call, before);
+    (old, again)
+}
+
+fn beside_old(revising: &Revising, observed: &ReviseObserved) -> Vec<String> {
+    beside_old_choices(&revising.call, revising.old.as_ref(), observed)
+}
+
+/// Where what was observed does not go with the choice before, as it is expected or as the library makes it. On a refusal there is
+/// none, and nothing to go with.
+pub(crate) fn beside_old_choices(
+    call: &ReviseCall,
+    expected: Option<&Expected>,
+    observed: &ReviseObserved,
+) -> Vec<String> {
+    let Some(expected) = expected else {
+        return Vec::new();
+    };
+    let chosen = old_choice(call, &observed.chosen.before);
+    let mut differences = compare::beside_old_set(call, &expected.marks, observed);
+    let old = chosen.marks(call.records());
+    differences.extend(compare::beside_old_set(call, old, observed));
     differences
 }
 
@@ -606,8 +679,6 @@ fn described(call: &ReviseCall) -> String {
 #[cfg(test)]
 mod tests {
     use super::*;
-    use crate::library::{ReviseBuffers, Reviser};
-    use crate::revise_cases::ReviseCase;
     use crate::wrong_revisions::{self, Program, RIGHT};
 
     #[test]
@@ -719,6 +790,135 @@ mod tests {
         "the movement left on a refusal by 12",
     ];
 
+    /// Whether the set that the library chooses before shows by itself that a program is wrong, without what is expected and without
+    /// a choice from the revised outline.
+    fn is_noticed_beside_old(program: Program, calls: &[Expectation]) -> bool {
+        let rng = &mut Random::new(7);
+        let program = program.run();
+        calls.iter().any(|(call, _)| {
+            let before = ReviseBuffers::random(call, rng);
+            let old = old_choice(call, &before.choice);
+            let differences = || {
+                let old = old.marks(call.records());
+                compare::beside_old_set(call, old, &program(call, before))
+            };
+            old.returned == 0 && !is_bad(call, call.records()) && !differences().is_empty()
+        })
+    }
+
+    #[test]
+    fn what_breaks_a_promise_is_noticed_by_the_old_set_alone_and_nothing_else_is() {
+        let mut stated = stated();
+        // the largest take long and show no more
+        stated.retain(|(call, _)| call.given.count < 4_000);
+        for calls in [stated, random(2_000)] {
+            assert!(!is_noticed_beside_old(RIGHT, &calls));
+            for (name, program) in wrong_revisions::named(&SHOWN_BY_THE_OLD_SET) {
+                assert!(is_noticed_beside_old(program, &calls), "{name}");
+            }
+            for (name, program) in wrong_revisions::named(&WRONG_BEYOND_THE_PROMISES) {
+                assert!(!is_noticed_beside_old(program, &calls), "{name}");
+            }
+        }
+    }
+
+    /// Wrong programs that move the best otherwise than is promised of the old set, choose another one or tell another one's numbers.
+    const SHOWN_BY_THE_OLD_SET: [&str; 52] = [
+        "stored at the record after",
+        "stored at the record before",
+        "stored in bytes 8 to 11, the price",
+        "stored in bytes 12 to 15, the plate",
+        "stored a byte too far",
+        "the low byte stored",
+        "the two low bytes stored",
+        "nothing stored",
+        "added to the old length",
+        "the smaller length stored",
+        "groups left as they are",
+        "taxa left as they are",
+        "the root left as it is",
+        "locked taxa left as they are",
+        "stored at every record",
+        "stored at the taxon of that number",
+        "the old best at one quarter more",
+        "the old best at one quarter less",
+        "the old best at 4,096 quarters",
+        "the old best at no quarter",
+        "the old best in the other way",
+        "the old best without locks",
+        "the new choice at one quarter less",
+        "the new choice in the other way",
+        "the new choice without locks",
+        "both the other way round",
+        "the best's the other way round",
+        "best and length exchanged",
+        "the new numbers",
+        "the old numbers",
+        "the new best for its movement",
+        "the cost's movement",
+        "the movement of the number of taxa",
+        "the spare's movement",
+        "16 bits with a sign",
+        "the length's movement for both",
+        "no movement",
+        "no movement of the best",
+        "the rooted movement",
+        "no movement of the best upwards",
+        "one less where a spanned length rises",
+        "one less where a length falls that is not spanned",
+        "the length's movement where one falls that is not spanned",
+        "the length's movement where the set is the same",
+        "the old choice left",
+        "the old answer given",
+        "the old diversity given",
+        "32 bits of each movement written",
+        "a tie broken otherwise",
+        "as much diversity for more quarters",
+        "the old best as the answer came",
+        "marks added to those that came",
+    ];
+
+    /// Wrong programs that keep to both promises: they are wrong where nothing is promised.
+    const WRONG_BEYOND_THE_PROMISES: [&str; 13] = [
+        "no movement downwards",
+        "no movement where the set is another",
+        "the movement of the set before",
+        "the movement of the set after",
+        "the length's movement wherever it is spanned",
+        "no movement wherever a length is not spanned",
+        "the old marks left",
+        "the old set left wherever it spans the branch",
+        "the old set left wherever it does not span the branch",
+        "the old set left where the length rises",
+        "the old set left where the length falls",
+        "the old set left where it is to stay by the rooted words",
+        "the old set left where it is to stay by the unrooted words",
+    ];
+
+    /// Whether a call in the buffers that the choice before has left shows that a program is wrong.
+    fn is_noticed_after_choice(program: Program, calls: &[Expectation]) -> bool {
+        let rng = &mut Random::new(8);
+        let program = program.run();
+        let mut accepted = calls.iter().filter(|(_, expected)| expected.number() == 0);
+        accepted.any(|(call, _)| {
+            let fresh = program(call, ReviseBuffers::random(call, rng));
+            let (old, again) = after_choice(&program, call, &fresh);
+            !compare::after_choice(call, &old, &fresh, &again).is_empty()
+        })
+    }
+
+    #[test]
+    fn what_goes_wrong_in_used_buffers_alone_is_noticed_there() {
+        let mut calls = random(4_000);
+        // fewer marks may be a set as they come
+        calls.retain(|(call, _)| call.records() > 3);
+        assert!(!is_noticed_after_choice(RIGHT, &calls));
+        for (name, program) in wrong_revisions::in_used_buffers() {
+            assert!(!is_noticed(&program.run(), &calls), "{name}");
+            assert!(is_noticed_after_choice(program, &calls), "{name}");
+        }
+    }
+
     #[test]
     fn subsets_that_come_to_something_else_are_noticed() {
         let rng = &mut Random::new(6);
@@ -730,6 +930,20 @@ mod tests {
         let by_subsets = revising.by_subsets.as_mut().expect("few subsets");
         by_subsets.moved[0] += 1;
         assert_eq!(beside(&revising, &observed).len(), 1);
+    }
+
+    /// {4, 5} for {3, 5} of tree A, whose root is revised: that is spanned by both.
+    #[test]
+    fn an_old_choice_that_is_another_one_is_noticed() {
+        let rng = &mut Random::new(9);
+        let case = revise_cases::all().swap_remove(1);
+        let mut revising = Revising::of(case.call, rng);
+        let before = ReviseBuffers::random(&revising.call, rng);
+        let observed = RIGHT.run()(&revising.call, before);
+        assert_eq!(beside(&revising, &observed), [""; 0]);
+        let old = revising.old.as_mut().expect("a choice before");
+        old.marks = vec![0, 0, 0, 1, 1];
+        assert_eq!(beside(&revising, &observed).len(), 2);
     }
 
     #[test]

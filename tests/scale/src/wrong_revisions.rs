@@ -4,13 +4,17 @@
 use std::ops::RangeInclusive;
 
 use crate::call::{needed, Call};
+use crate::exhaustive::subsets;
+use crate::expect::is_small;
 use crate::frame::{Cell, Frame};
 use crate::library::{self, ChooseObserved, ReviseBuffers, ReviseObserved};
-use crate::outline::{self, taxa, Record, RECORD_BYTES, ROOTED};
+use crate::measures::Measures;
+use crate::outline::{self, taxa, Record, RECORD_BYTES, ROOTED, UNROOTED};
 use crate::random::Random;
 use crate::revise::{is_bad, ReviseCall, MOST_LENGTH};
 use crate::rules::{self, Refusal};
 use crate::sheet;
+use crate::spanning::Branch;
 
 /// How a program goes about it, and what is altered of what it has done.
 #[derive(Clone, Copy)]
@@ -157,6 +161,18 @@ impl Choices {
     fn marks(&self) -> [&[u8]; 2] {
         let records = records(&self.call);
         [&self.old, &self.new].map(|choice| &choice.after.marks.content()[..records])
+    }
+
+    /// The revised branch beside the set chosen before.
+    fn branch(&self) -> Branch {
+        Branch::of(&self.call, self.marks()[0])
+    }
+
+    /// The same by the words of one way for both.
+    fn branch_by(&self, way: u32) -> Branch {
+        let mut call = self.call.clone();
+        call.given.way = way;
+        Branch::of(&call, self.marks()[0])
     }
 
     /// The diversity of the set chosen before and of the one after, each in the outline before and in the one after.
@@ -356,7 +372,7 @@ fn without_locks(call: &mut Call) {
     }
 }
 
-const MOVING: [Otherwise<Movement>; 25] = [
+const MOVING: [Otherwise<Movement>; 32] = [
     ("both the other way round", |choices| {
         choices.moved().map(|moved| -moved)
     }),
@@ -433,6 +449,49 @@ const MOVING: [Otherwise<Movement>; 25] = [
     ("the rooted movement", |choices| {
         let [[old, _], [_, new]] = choices.diversities(ROOTED);
         [new - old, choices.moved()[1]]
+    }),
+    ("no movement of the best upwards", |choices| {
+        let [best, length] = choices.moved();
+        [best.min(0), length]
+    }),
+    ("one less where a spanned length rises", |choices| {
+        let [best, length] = choices.moved();
+        let less = choices.branch().is_spanned && length > 0;
+        [best - i64::from(less), length]
+    }),
+    (
+        "one less where a length falls that is not spanned",
+        |choices| {
+            let [best, length] = choices.moved();
+            let less = !choices.branch().is_spanned && length < 0;
+            [best - i64::from(less), length]
+        },
+    ),
+    (
+        "the length's movement where one falls that is not spanned",
+        |choices| {
+            let [best, length] = choices.moved();
+            let falls = !choices.branch().is_spanned && length < 0;
+            [if falls { length } else { best }, length]
+        },
+    ),
+    (
+        "the length's movement where the set is the same",
+        |choices| {
+            let [old, new] = choices.marks();
+            let [best, length] = choices.moved();
+            [if old == new { length } else { best }, length]
+        },
+    ),
+    ("the length's movement wherever it is spanned", |choices| {
+        let [best, length] = choices.moved();
+        let is_spanned = choices.branch().is_spanned;
+        [if is_spanned { length } else { best }, length]
+    }),
+    ("no movement wherever a length is not spanned", |choices| {
+        let [best, length] = choices.moved();
+        let is_spanned = choices.branch().is_spanned;
+        [if is_spanned { best } else { 0 }, length]
     }),
 ];
 
@@ -613,7 +672,7 @@ const JUDGING: [Otherwise<[Row; 7]>; 16] = [
     ),
 ];
 
-const WRITING: [Otherwise<Alter>; 37] = [
+const WRITING: [Otherwise<Alter>; 47] = [
     ("the old choice left", |choices, observed| {
         if observed.chosen.returned == 0 {
             let old = &choices.old.after;
@@ -811,9 +870,111 @@ const WRITING: [Otherwise<Alter>; 37] = [
             outline.cells[outline.start + outline.len - 1] ^= 128;
         }
     }),
+    ("a tie broken otherwise", |choices, observed| {
+        leave_other(choices, observed, |other, chosen| other == chosen);
+    }),
+    (
+        "as much diversity for more quarters",
+        |choices, observed| {
+            leave_other(choices, observed, |other, chosen| {
+                other[1] == chosen[1] && other[0] > chosen[0]
+            });
+        },
+    ),
+    (
+        "the old set left wherever it spans the branch",
+        |choices, observed| {
+            leave_old_where(|branch| branch.is_spanned, choices, observed);
+        },
+    ),
+    (
+        "the old set left wherever it does not span the branch",
+        |choices, observed| {
+            leave_old_where(|branch| !branch.is_spanned, choices, observed);
+        },
+    ),
+    (
+        "the old set left where the length rises",
+        |choices, observed| {
+            leave_old_where(|branch| branch.difference > 0, choices, observed);
+        },
+    ),
+    (
+        "the old set left where the length falls",
+        |choices, observed| {
+            leave_old_where(|branch| branch.difference < 0, choices, observed);
+        },
+    ),
+    (
+        "the old set left where it is to stay by the rooted words",
+        |choices, observed| leave_old_by(ROOTED, choices, observed),
+    ),
+    (
+        "the old set left where it is to stay by the unrooted words",
+        |choices, observed| leave_old_by(UNROOTED, choices, observed),
+    ),
+    ("the old best as the answer came", |_, observed| {
+        if observed.chosen.returned == 0 {
+            let [old, new] = [&observed.chosen.before, &observed.chosen.after]
+                .map(|buffers| i64::from(buffers.answer.content()[2]));
+            observed.moved_after.write(&[new - old]);
+        }
+    }),
+    ("marks added to those that came", |choices, observed| {
+        if observed.chosen.returned == 0 {
+            let came = observed.chosen.before.marks.content().iter();
+            let left = came.zip(choices.marks()[1]);
+            let both: Vec<u8> = left.map(|(came, left)| came | left).collect();
+            observed.chosen.after.marks.write(&both);
+        }
+    }),
 ];
 
-/// Every wrong program.
+/// These go wrong only in buffers that a choice has left.
+const USED: [Otherwise<Alter>; 3] = [
+    ("marks that came as a set left", |choices, observed| {
+        let came = observed.chosen.before.marks.content();
+        let is_set = |came: &[u8]| came.iter().all(|&mark| mark < 2);
+        match came.get(..records(&choices.call)) {
+            Some(came) if observed.chosen.returned == 0 && is_set(came) => {
+                observed.chosen.after.marks.write(came);
+            }
+            _ => {}
+        }
+    }),
+    (
+        "a curve left that came with the same last column",
+        |choices, observed| {
+            let columns = choices.old.after.curve.len;
+            let came = observed.chosen.before.curve.content().get(..columns);
+            let last = &observed.chosen.after.answer.content()[2..4];
+            match came {
+                Some(came) if observed.chosen.returned == 0 && came.ends_with(last) => {
+                    observed.chosen.after.curve.write(came);
+                }
+                _ => {}
+            }
+        },
+    ),
+    (
+        "no movement of the best where the marks that came are left",
+        |_, observed| {
+            let [came, left] = [&observed.chosen.before, &observed.chosen.after]
+                .map(|buffers| buffers.marks.content());
+            if observed.chosen.returned == 0 && came == left {
+                observed.moved_after.write(&[0]);
+            }
+        },
+    ),
+];
+
+/// Wrong programs that are right in fresh buffers.
+pub fn in_used_buffers() -> Vec<Wrong> {
+    let used = USED.map(|(name, alter)| (name, Program { alter, ..RIGHT }));
+    used.into()
+}
+
+/// Every other wrong program.
 pub fn all() -> Vec<Wrong> {
     let storing = STORING.map(|(name, store)| (name, Program { store, ..RIGHT }));
     let before = BEFORE.map(|(name, before)| (name, Program { before, ..RIGHT }));
@@ -850,6 +1011,56 @@ fn give_old(at: usize, choices: &Choices, observed: &mut ReviseObserved) {
     if observed.chosen.returned == 0 {
         give(at, choices.old.after.answer.content()[at], observed);
     }
+}
+
+/// Leaves another set of few taxa that fits and has every lock, if it holds for its cost and diversity beside the chosen set's.
+fn leave_other(
+    choices: &Choices,
+    observed: &mut ReviseObserved,
+    holds: fn([u32; 2], [u32; 2]) -> bool,
+) {
+    let given = &choices.call.given;
+    if observed.chosen.returned != 0 || !is_small(given) {
+        return;
+    }
+    let records = outline::records(choices.new.before.outline.content());
+    let measures = Measures::new(&records, given.way);
+    let chosen = choices.marks()[1];
+    let stands = sheet::sums(&records, given.way, chosen);
+    let other = subsets(taxa(&records).len()).into_iter().find(|&set| {
+        let of_set = measures.of(set);
+        set & measures.locked() == measures.locked()
+            && of_set[0] <= given.count
+            && holds(of_set, stands)
+            && measures.marks(set) != chosen
+    });
+    if let Some(set) = other {
+        observed.chosen.after.marks.write(&measures.marks(set));
+        give(3, measures.of(set)[0], observed);
+        give(4, set.count_ones(), observed);
+    }
+}
+
+/// Leaves the old set, moved as its own diversity does, if it holds for the branch.
+fn leave_old_where(holds: fn(Branch) -> bool, choices: &Choices, observed: &mut ReviseObserved) {
+    if observed.chosen.returned == 0 && holds(choices.branch()) {
+        leave_old(choices.branch(), choices, observed);
+    }
+}
+
+/// Leaves the old set where it is promised to stay, by the words of one way for both.
+fn leave_old_by(way: u32, choices: &Choices, observed: &mut ReviseObserved) {
+    if observed.chosen.returned == 0 && choices.branch_by(way).stays() {
+        leave_old(choices.branch_by(way), choices, observed);
+    }
+}
+
+fn leave_old(branch: Branch, choices: &Choices, observed: &mut ReviseObserved) {
+    let mut answer = choices.old.after.answer.content().to_vec();
+    answer[2] = (i64::from(answer[2]) + branch.own()) as u32;
+    observed.chosen.after.answer.write(&answer);
+    observed.chosen.after.marks.write(choices.marks()[0]);
+    observed.moved_after.write(&[branch.own()]);
 }
 
 /// Clears the buffer from there to its end.
