@@ -7,6 +7,7 @@ use mathlib.Core.Logic.Iff
 use mathlib.Core.List.{List}
 use native.Mathlib.Omega.{arith}
 use lib.Dec.{leb}
+use lib.ListN.{take}
 use lib.Seq.{take_at}
 use borrow.Author.Tests.{eq-eqb, ne_eqb, leb-true, leb-false}
 use Rattle.lists.specs.Lists.{over}
@@ -82,7 +83,8 @@ module _ (c : Call) {r : Reply Figures} {marks curve work : List ℕ} (x : Answe
     fit : cost c.outline (locked_set c.outline) ≤ c.count
     fit = (selected_solvable c selected_row).searchable.locked_fit
 
-    marked_is : marked_set c marks ≡ best_set c
+    -- the set that is marked is the exhaustive search's
+    pub marked_is : marked_set c marks ≡ best_set c
     unfolding marks_after over
     marked_is = rw (x.marks_written, selected_row) (take_at (best_set c) _ (size c.outline) (optimum_set c.outline c.way c.count fit).whole)
 
@@ -178,3 +180,9 @@ pub best_told : {o : List ℕ} {count way : ℕ} {c : Call} → CallAt o count w
 best_told {c = c} at x z =
     let f = demand_3 c x z in
     f.diversity_is_shown ∙ (f.columns c.count (omega arith)).searched.0 ∙ rw (at.outline_is, at.way_is, at.count_is)
+
+-- and marks the set that it ends with
+pub best_marked : {o : List ℕ} {count way : ℕ} {c : Call} → CallAt o count way c → {r : Reply Figures} {marks curve work : List ℕ}
+    → Answered c r marks curve work → r.number ≡ 0 → take (size o) marks ≡ optimum o way count
+best_marked {c = c} at {marks = marks} x z =
+    ap (λ o. take (size o) marks) (sym at.outline_is) ∙ marked_is c x z ∙ rw (at.outline_is, at.way_is, at.count_is) refl

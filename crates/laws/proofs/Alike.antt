@@ -1,5 +1,5 @@
 -- Outlines that are alike: as long as each other, with the same links and plate fields. Their sets of taxa are the same, and so is what a set
--- has below each record; with the same prices its cost is the same.
+-- has below each record and how many it has; with the same prices its cost is the same.
 use Rattle.std.specs.Prelude.{if◌then◌else◌, ◌⊎◌}
 use Prim.Native.Nat.{ℕ, zero, suc, ◌-◌, ◌/◌, ◌%◌}
 use mathlib.Core.Path.{◌≡◌, refl, sym, ap, ap₂, subst, fun_ext, ◌∙◌}
@@ -8,10 +8,10 @@ use mathlib.Core.List.{List, ◌∷◌, ◌++◌}
 use native.Mathlib.Omega.{arith}
 use lib.ListN.{length, get_or}
 use lib.Dec.{eqb}
-use Rattle.lists.specs.Lists.{from, anywhere, total}
+use Rattle.lists.specs.Lists.{one, from, anywhere, total}
 use Rattle.outline.specs.Outline.{size, records, next, first, price, plate_field, is_taxon, locked, lock_bit}
 use Rattle.diversity.specs.Behind.{IsSet}
-use Rattle.diversity.specs.Diversity.{chain, clade, chosen, within, elsewhere, cost, holds_locked}
+use Rattle.diversity.specs.Diversity.{chain, clade, chosen, within, elsewhere, cost, holds_locked, chosen_taxa}
 use Rattle.laws.proofs.Accepted.{SameLinksAndPlates}
 
 pub record Alike (o p : List ℕ) : Type 0 where
@@ -86,3 +86,7 @@ module _ {o p : List ℕ} (alike : Alike o p) where
   pub alike_cost : ((r : ℕ) → price p r ≡ price o r) → (s : List ℕ) → cost p s ≡ cost o s
   unfolding cost
   alike_cost prices s = ap₂ total (fun_ext (λ r. ap₂ (λ b n. if b then n else 0) (alike_within s r) (prices r))) alike_records
+
+  pub alike_taxa : (s : List ℕ) → chosen_taxa p s ≡ chosen_taxa o s
+  unfolding chosen_taxa
+  alike_taxa s = ap (total (λ r. one (chosen s r))) alike_records

@@ -286,7 +286,7 @@ module _ (o : List ℕ) (way b : ℕ) where
     fit : cost o (locked_set o) ≤ b
     fit = (some_fits o b).0 (t, x, f)
 
-    same_or_behind : (t ≡ optimum o way b) ⊎ Behind o way (optimum o way b) t
+    pub same_or_behind : (t ≡ optimum o way b) ⊎ Behind o way (optimum o way b) t
     unfolding worth
     same_or_behind =
         behind (optimum_set fit) x ((held_all o _).0 (optimum_fits fit).locked_held ∙ sym ((held_all o t).0 f.locked_held))

@@ -33,6 +33,7 @@ use Rattle.revise.specs.Answer as revise
 use Rattle.revise.specs.Demands as revisions
 use Rattle.revise.specs.Moved.{MovesWith}
 use Rattle.revise.proofs.Demands.{demand_1 as revise_decided, outline_revised, outline_accepted, sets_same, chosen, old_chosen, movements_true}
+use Rattle.revise.proofs.Exactly.{exactly_as_much}
 use Rattle.canonical.specs.SameTree.{SameTree}
 use Rattle.house.specs.Answer as house
 use Rattle.house.specs.Compared as compare
@@ -88,7 +89,8 @@ module _ {c : quick.Call} {n : ℕ} {answer : List ℕ} {ceiling : ℕ} {marks :
 
 -- so it is with revising a length: the best diversity moves with the length; the revised outline is the given one with that length, and
 -- accepted, and the same sets fit it; what is given and left is what `plates_choose` on it, lent the same buffers, gives and leaves; on the given
--- outline that is not refused either, and the best diversity moved from what any such call is told there
+-- outline that is not refused either, and the best diversity moved from what any such call is told there; where the set that such a call marks
+-- spans the branch and the length rises, by exactly as much, where it does not and the length falls, not at all, and that set stays marked
 module _ {c : revise.Call} {n : ℕ} {answer : List ℕ} {moved : List ℤ} {marks curve work : List ℕ} (x : LengthRevised c n answer moved marks curve work) where
   pub revised_decided : revisions.RevisedOrRefused c (revised_in moved answer) marks curve work
   revised_decided = revise_decided c x.given.answered
@@ -128,6 +130,11 @@ module _ {c : revise.Call} {n : ℕ} {answer : List ℕ} {moved : List ℤ} {mar
     pub revised_movements : {d : choose.Call} → choices.CallAt c.outline c.count c.way d → {k : ℕ} {answer' marks' curve' work' : List ℕ}
         → Chosen d k answer' marks' curve' work' → k ≡ 0 → revisions.MovementsTrue c (revised_in moved answer) (chosen_in answer')
     revised_movements at y f = movements_true c x.given.answered told_0 at y.answered (sym y.number_given ∙ f)
+
+    pub revised_exactly : {d : choose.Call} → choices.CallAt c.outline c.count c.way d → {k : ℕ} {answer' before curve' work' : List ℕ}
+        → Chosen d k answer' before curve' work' → k ≡ 0
+        → revisions.ExactlyAsMuch c (revised_in moved answer) marks (chosen_in answer') before
+    revised_exactly at y f = exactly_as_much c x.given.answered told_0 at y.answered (sym y.number_given ∙ f)
 
 pub listed_decided : {c : sheet.Call} {n : ℕ} {answer lent : List ℕ} → SheetListed c n answer lent
     → sheets.ListedOrRefused c (listed_in answer) lent

@@ -68,14 +68,14 @@ module _ (c : Call) {r : Reply Figures} {marks curve work : List ℕ} (x : Answe
 
   -- where the number told is 0
   module _ (z : r.number ≡ 0) where
-    passes : (judged c).number ≡ 0
+    pub passes : (judged c).number ≡ 0
     unfolding reply
     passes = told_passed _ _ _ (sym (ap (λ (a : Reply Figures). a.number) x.told_reply) ∙ z)
 
-    revisable : Revisable c
+    pub revisable : Revisable c
     revisable = passed_revisable c passes
 
-    told_is : r ≡ granted (figures c)
+    pub told_is : r ≡ granted (figures c)
     unfolding reply
     told_is = x.told_reply ∙ rw passes
 

@@ -1,46 +1,35 @@
 -- Two outlines that differ only in the length of record r: a set's diversity differs by as much if it counts that length, else not; so the best
--- diversity moves with the length, and never by more.
+-- diversity moves with the length and never by more, by exactly as much or not at all where the best set says so, and then that set stays.
 use Rattle.std.specs.Prelude.{if◌then◌else◌}
 use Prim.Native.Nat.{ℕ, ◌+◌, ◌*◌, ◌-◌, ◌≤◌}
 use mathlib.Core.Path.{◌≡◌, refl, sym, ap, ap₂, fun_ext, ◌∙◌}
 use mathlib.Core.Logic.{◌≢◌}
-use mathlib.Core.Bool.{Bool, true, false, ◌&&◌}
+use mathlib.Core.Bool.{Bool, true, false}
 use mathlib.Core.List.{List}
 use native.Mathlib.Omega.{arith}
 use lib.Dec.{eqb}
 use borrow.Author.Tests.{eqb-true, eqb-false}
 use Rattle.lists.specs.Lists.{one, from, total}
 use Rattle.outline.specs.Outline.{size, records, branch, price, IsRecord}
-use Rattle.diversity.specs.Diversity.{within, elsewhere, rooted, unrooted, diversity, cost}
-use Rattle.diversity.specs.Search.{best_diversity}
+use Rattle.diversity.specs.Behind.{IsSet, Fits}
+use Rattle.diversity.specs.Diversity.{diversity, cost}
+use Rattle.diversity.specs.Search.{optimum, best_diversity}
 use Rattle.laws.specs.Locks.{locked_set}
 use Rattle.laws.proofs.Sums.{total_add, total_ext, total_single}
 use Rattle.laws.proofs.Alike.{Alike, alike_back, alike_size, alike_records, alike_within, alike_elsewhere, alike_holds, alike_set, alike_cost}
-use Rattle.laws.proofs.Searches.{Passes, passed_fit, best_most}
-
--- the diversity of set s counts the length of record r
-unfoldable spans : List ℕ → ℕ → List ℕ → ℕ → Bool
-spans o way s r = if eqb way 0 then within o s r else (within o s r && elsewhere o s r)
+use Rattle.laws.proofs.Optimum.{shown_diversity}
+use Rattle.laws.proofs.Searches.{Passes, passed_fit, best_most, set_stays}
+use Rattle.revise.specs.Spans.{spans}
+use Rattle.revise.proofs.Spans.{diversity_spans}
 
 -- how far a number moved beside another: as that rises or falls, and never by more
 pub record Moves (old new from to : ℕ) : Type 0 where
   pub rises : from ≤ to → (old ≤ new) × (new - old ≤ to - from)
   pub falls : to ≤ from → (new ≤ old) × (old - new ≤ from - to)
 
--- the diversity of a set is the sum of the lengths that it counts
-counted : List ℕ → ℕ → List ℕ → (ℕ → ℕ) → ℕ → ℕ
+-- what the length of each record counts for
+abbrev counted : List ℕ → ℕ → List ℕ → (ℕ → ℕ) → ℕ → ℕ
 counted o way s w r = if spans o way s r then w r else 0
-
-diversity_counted : (o : List ℕ) (way : ℕ) (s : List ℕ) → diversity o way s ≡ total (counted o way s (branch o)) (records o)
-unfolding diversity rooted unrooted spans counted
-diversity_counted o way s = go (eqb way 0)
-  where
-    go : (b : Bool)
-        → (if b then total (λ r. if within o s r then branch o r else 0) (records o)
-        else total (λ r. if within o s r && elsewhere o s r then branch o r else 0) (records o))
-        ≡ total (λ r. if (if b then within o s r else (within o s r && elsewhere o s r)) then branch o r else 0) (records o)
-    go true = refl
-    go false = refl
 
 -- o and p differ only in the length of record r
 pub record OneLength (o p : List ℕ) (r : ℕ) : Type 0 where
@@ -78,7 +67,7 @@ module _ (o p : List ℕ) (r : ℕ) (d : OneLength o p r) where
 
     split : (w : ℕ → ℕ) → ((q : ℕ) → 1 ≤ q → q ≢ r → w q ≡ branch o q)
         → total (counted o way s w) (records o) ≡ total rest (records o) + (if spans o way s r then w r else 0)
-    unfolding records counted
+    unfolding records
     split w others =
         total_ext _ (λ q. rest q + (if spans o way s r then w r else 0) * one (eqb r q)) 1 (size o) (λ q l u. go q (eqb r q) refl (others q l))
         ∙ total_add rest (λ q. (if spans o way s r then w r else 0) * one (eqb r q)) (from 1 (size o))
@@ -93,13 +82,12 @@ module _ (o p : List ℕ) (r : ℕ) (d : OneLength o p r) where
 
     -- the diversity moves as what the length counts for
     diversity_moves : diversity p way s + own o ≡ diversity o way s + own p
-    unfolding counted
     diversity_moves =
         let a = split (branch o) (λ q l x. refl) in
         let b = split (branch p) d.others in
         let e : total (counted p way s (branch p)) (records p) ≡ total (counted o way s (branch p)) (records o) =
         ap₂ total (fun_ext (λ q. ap (λ b. if b then branch p q else 0) (same_spans way s q))) (alike_records d.alike) in
-        omega (arith, diversity_counted o way s, diversity_counted p way s)
+        omega (arith, diversity_spans o way s, diversity_spans p way s)
 
     -- by exactly the difference if it counts that length, else not
     spanned_moves : spans o way s r ≡ true → diversity p way s + branch o r ≡ diversity o way s + branch p r
@@ -143,3 +131,28 @@ module _ (o p : List ℕ) (r : ℕ) (d : OneLength o p r) (b : ℕ) (fit : cost 
         let most = best_most o p b there fit way (branch o r - branch p r) (λ s x. (diversity_rises p o r back way s h).1) in
         (omega arith, omega arith);
   }
+
+  -- with such a length no set gains more than one that counts it, as it rises, nor than one that does not, as it falls; so the best set stays
+  module _ (way : ℕ) where
+    abbrev old : List ℕ
+    old = optimum o way b
+
+    stays : ((t : List ℕ) → IsSet o t → Fits o b t → diversity p way t + diversity o way old ≤ diversity p way old + diversity o way t)
+        → (optimum p way b ≡ old) × (best_diversity p way b ≡ diversity p way old)
+    stays most =
+        let e = set_stays o p b there here fit (alike_cost d.alike d.prices) way most in
+        (e, shown_diversity p way b length_fit ∙ ap (diversity p way) e)
+
+    pub spanned_rises : spans o way old r ≡ true → branch o r ≤ branch p r
+        → (optimum p way b ≡ old) × (best_diversity p way b + branch o r ≡ best_diversity o way b + branch p r)
+    spanned_rises e h =
+        let gain = spanned_moves o p r d way old e in
+        let (same, best) = stays (λ t x f. omega (arith, gain, (diversity_rises o p r d way t h).1)) in
+        (same, omega (arith, gain, best, shown_diversity o way b fit))
+
+    pub unspanned_falls : spans o way old r ≡ false → branch p r ≤ branch o r
+        → (optimum p way b ≡ old) × (best_diversity p way b ≡ best_diversity o way b)
+    unspanned_falls e h =
+        let gain = unspanned_stays o p r d way old e in
+        let (same, best) = stays (λ t x f. omega (arith, gain, (diversity_rises p o r back way t h).0)) in
+        (same, best ∙ gain ∙ sym (shown_diversity o way b fit))

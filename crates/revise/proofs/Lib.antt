@@ -3,6 +3,8 @@ pub mod Answers
 pub mod Bounds
 pub mod Bytes
 pub mod Demands
+pub mod Exactly
 pub mod Lengths
 pub mod Revisions
 pub mod Signs
+pub mod Spans

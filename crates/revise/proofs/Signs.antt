@@ -1,6 +1,6 @@
 -- Movements as signed numbers: their signs and their sizes.
-use Prim.Native.Nat.{ℕ, zero, suc, ◌-◌, ◌≤◌, ◌<◌}
-use mathlib.Core.Path.{◌≡◌, refl, ap}
+use Prim.Native.Nat.{ℕ, zero, suc, ◌+◌, ◌-◌, ◌≤◌, ◌<◌}
+use mathlib.Core.Path.{◌≡◌, refl, sym, ap, ◌∙◌}
 use mathlib.Core.Bool.{Bool, true, false}
 use native.Mathlib.Omega.{arith}
 use lib.Dec.{ltb, ltb→lt, lt→ltb}
@@ -37,6 +37,13 @@ still_down b = record {
 -- neither moves, as on a refusal
 pub both_still : MovesWith (pos 0) (pos 0)
 both_still = both_up 0 0 (omega arith)
+
+-- where the sums are the same, they move alike
+pub moved_alike : (old new from to : ℕ) → from ≤ to → new + from ≡ old + to → moved old new ≡ moved from to
+moved_alike old new from to h e = moved_up old new (omega arith) ∙ ap pos (omega arith) ∙ sym (moved_up from to h)
+
+pub moved_nowhere : (old : ℕ) → moved old old ≡ pos 0
+moved_nowhere old = moved_up old old (omega arith) ∙ ap pos (omega arith)
 
 pub moves_signed : {old new from to : ℕ} → Moves old new from to → MovesWith (moved old new) (moved from to)
 moves_signed {old} {new} {from} {to} m = go (ltb to from) refl (ltb new old) refl

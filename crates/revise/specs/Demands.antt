@@ -1,5 +1,5 @@
 -- The words of what is promised of a call of `revise`, and of one beside a call of `choose`.
-use Rattle.std.specs.Prelude.{ℕ, ◌+◌, ◌≤◌, ◌<◌, ◌≡◌, ◌≢◌, ◌⊎◌, ◌↔◌, List, [], ◌∷◌, ◌++◌, length, get_or}
+use Rattle.std.specs.Prelude.{ℕ, ◌+◌, ◌≤◌, ◌<◌, pos, ◌≡◌, ◌≢◌, ◌⊎◌, ◌↔◌, Bool, true, false, List, [], ◌∷◌, ◌++◌, length, get_or}
 use Rattle.refusals.specs.Reply.{Reply, ruling_of}
 use Rattle.refusals.specs.Table.{Row, whole, Decided}
 use Rattle.outline.specs.Outline.{size, branch}
@@ -7,10 +7,11 @@ use Rattle.outline.specs.Rules.{most_length}
 use Rattle.outline.specs.Demands.{size_table, record_table}
 use Rattle.diversity.specs.Behind.{IsSet, Fits, NoneFits}
 use Rattle.choice.specs.Answer as choose
-use Rattle.choice.specs.Demands.{TooShort}
+use Rattle.choice.specs.Demands.{TooShort, marked_set}
 use Rattle.choice.specs.declared.answer.Figures.{Figures as Choice}
 use Rattle.revise.specs.Revised.{length_place}
 use Rattle.revise.specs.Moved.{moved}
+use Rattle.revise.specs.Spans.{spans}
 use Rattle.revise.specs.Answer.{Call, Figures, numbers_of, old_choice}
 
 -- the table of a call, in the order in which it is judged: 1 to 8, 16, 9, 12
@@ -49,3 +50,25 @@ choice_in r = record { number = r.number; place = r.place; figures = r.figures.c
 pub record MovementsTrue (c : Call) (r : Reply Figures) (old : Reply Choice) : Type 0 where
   pub best_true : r.figures.moved.best ≡ moved old.figures.diversity r.figures.choice.diversity
   pub length_true : r.figures.moved.length ≡ moved (branch c.outline c.changed) c.to
+
+-- the old choice, whose marks are `before`, spans the revised branch
+abbrev pub old_spans : Call → List ℕ → Bool
+old_spans c before = spans c.outline c.way (marked_set (old_choice c) before) c.changed
+
+-- the set that was chosen stays chosen: the marks of the outline's records are the same, and what is told of the set but its diversity; and
+-- where marks are lent as the old choice left them, no byte of them changes
+pub record SetStays (c : Call) (r : Reply Figures) (marks : List ℕ) (old : Reply Choice) (before : List ℕ) : Type 0 where
+  pub same_set : marked_set (old_choice c) marks ≡ marked_set (old_choice c) before
+  pub same_cost : r.figures.choice.cost ≡ old.figures.cost
+  pub same_taxa : r.figures.choice.taxa ≡ old.figures.taxa
+  pub same_spare : r.figures.choice.spare ≡ old.figures.spare
+  pub same_buffer : c.marks ≡ before → marks ≡ before
+
+-- what is told and marked, where a choice on the given outline is told `old` and leaves the marks `before`: where it spans the revised branch
+-- and the length rises, the best rises by exactly the difference, and the same set stays chosen; where it does not span it and the length
+-- falls, the movement is 0 and the set also stays. A length that stays as it is may be taken for either
+pub record ExactlyAsMuch (c : Call) (r : Reply Figures) (marks : List ℕ) (old : Reply Choice) (before : List ℕ) : Type 0 where
+  pub spanned_rises : old_spans c before ≡ true → branch c.outline c.changed ≤ c.to
+      → (r.figures.moved.best ≡ r.figures.moved.length) × SetStays c r marks old before
+  pub unspanned_falls : old_spans c before ≡ false → c.to ≤ branch c.outline c.changed
+      → (r.figures.moved.best ≡ pos 0) × SetStays c r marks old before

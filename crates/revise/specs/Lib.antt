@@ -5,3 +5,4 @@ pub mod Demands
 pub mod Inner
 pub mod Moved
 pub mod Revised
+pub mod Spans

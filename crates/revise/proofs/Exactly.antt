@@ -1,0 +1,100 @@
+-- What is promised of a call of `revise` beside any call of `choose` on the given outline, made before it, say, and with the same buffers: where the
+-- set that is marked there spans the revised branch and the length rises, the best rises by exactly the difference; where it does not span it
+-- and the length falls, the best stays; and that set stays chosen.
+use Prim.Native.Nat.{ℕ, ◌≤◌}
+use mathlib.Core.Path.{◌≡◌, refl, sym, ap, ◌∙◌}
+use mathlib.Core.Bool.{Bool}
+use mathlib.Core.List.{List}
+use lib.ListN.{take, take-append-drop}
+use Rattle.lists.specs.Lists.{over}
+use Rattle.refusals.specs.Reply.{Reply}
+use Rattle.outline.specs.Outline.{size}
+use Rattle.diversity.specs.Diversity.{cost, chosen_taxa}
+use Rattle.diversity.specs.Search.{optimum}
+use Rattle.laws.specs.Locks.{locked_set}
+use Rattle.laws.proofs.Alike.{Alike, alike_size, alike_cost, alike_taxa}
+use Rattle.laws.proofs.Optimum.{optimum_set}
+use Rattle.choice.specs.Answer as choose
+use Rattle.choice.specs.declared.answer.Figures.{Figures as Choice}
+use Rattle.choice.specs.Demands.{marked_set, TrueOfMarks, CallAt}
+use Rattle.choice.proofs.Demands.{demand_2, spare_is_left, best_marked}
+use Rattle.revise.specs.Spans.{spans}
+use Rattle.revise.specs.Answer.{Call, Figures, new_outline, old_choice, new_choice, Answered, figures, marks_after}
+use Rattle.revise.specs.Demands.{old_spans, SetStays, ExactlyAsMuch}
+use Rattle.revise.specs.Inner.{Revisable}
+use Rattle.revise.proofs.Bytes.{revised_alike, revised_price}
+use Rattle.revise.proofs.Demands.{passes, revisable, told_is, chosen, chosen_true}
+use Rattle.revise.proofs.Revisions.{rises_exactly, stays_exactly}
+
+module _ (c : Call) {r : Reply Figures} {marks curve work : List ℕ} (x : Answered c r marks curve work) (z : r.number ≡ 0)
+    {d : choose.Call} (at : CallAt c.outline c.count c.way d) {old : Reply Choice} {before k w : List ℕ} (y : choose.Answered d old before k w)
+    (f : old.number ≡ 0) where
+  abbrev best : List ℕ
+  best = optimum c.outline c.way c.count
+
+  may : Revisable c
+  may = revisable c x z
+
+  fit : cost c.outline (locked_set c.outline) ≤ c.count
+  fit = may.solvable.searchable.locked_fit
+
+  before_is : marked_set (old_choice c) before ≡ best
+  before_is = best_marked at y f
+
+  before_true : TrueOfMarks d old before
+  before_true = demand_2 d y f
+
+  spans_best : {b : Bool} → old_spans c before ≡ b → spans c.outline c.way best c.changed ≡ b
+  spans_best s = ap (λ t. spans c.outline c.way t c.changed) (sym before_is) ∙ s
+
+  -- where the search on the revised outline ends with the same set, that is marked, and the rest is told, as before
+  module _ (same : optimum (new_outline c) c.way c.count ≡ best) where
+    alike : Alike c.outline (new_outline c)
+    alike = revised_alike c.outline c.changed c.to may.is_record
+
+    now_is : marked_set (new_choice c) marks ≡ best
+    now_is = best_marked (record { outline_is = refl; count_is = refl; way_is = refl }) (chosen c x z) z ∙ same
+
+    cost_stays : r.figures.choice.cost ≡ old.figures.cost
+    cost_stays =
+        (chosen_true c x z).cost_true
+        ∙ ap (cost (new_outline c)) now_is
+        ∙ alike_cost alike (revised_price c.outline c.changed c.to may.is_record) best
+        ∙ sym (before_true.cost_true ∙ rw (at.outline_is, before_is) refl)
+
+    taxa_stay : r.figures.choice.taxa ≡ old.figures.taxa
+    taxa_stay =
+        (chosen_true c x z).taxa_true
+        ∙ ap (chosen_taxa (new_outline c)) now_is
+        ∙ alike_taxa alike best
+        ∙ sym (before_true.taxa_true ∙ rw (at.outline_is, before_is) refl)
+
+    spare_stays : r.figures.choice.spare ≡ old.figures.spare
+    spare_stays = spare_is_left (new_choice c) (chosen c x z) z ∙ rw (cost_stays, ← at.count_is) (sym (spare_is_left d y f))
+
+    -- the marks that the old choice left are written over themselves
+    buffer_stays : c.marks ≡ before → marks ≡ before
+    unfolding marks_after over
+    buffer_stays lent =
+        x.marks_written
+        ∙ rw (passes c x z, lent, same, (optimum_set c.outline c.way c.count fit).whole, ← before_is) (take-append-drop (size c.outline) before)
+
+    set_stays : SetStays c r marks old before
+    set_stays = record {
+      same_set = ap (λ n. take n marks) (sym (alike_size alike)) ∙ now_is ∙ sym before_is;
+      same_cost = cost_stays;
+      same_taxa = taxa_stay;
+      same_spare = spare_stays;
+      same_buffer = buffer_stays;
+    }
+
+  pub exactly_as_much : ExactlyAsMuch c r marks old before
+  unfolding figures
+  exactly_as_much = record {
+    spanned_rises = λ s h.
+        let (same, moves) = rises_exactly c.outline c.changed c.to may.is_record may.length_most c.way c.count fit (spans_best s) h in
+        (rw (told_is c x z) moves, set_stays same);
+    unspanned_falls = λ s h.
+        let (same, moves) = stays_exactly c.outline c.changed c.to may.is_record may.length_most c.way c.count fit (spans_best s) h in
+        (rw (told_is c x z) moves, set_stays same);
+  }
