@@ -250,8 +250,20 @@
  * - The best diversity moves by no more than the length: moved[0] is never larger in size than moved[1].
  * - It never moves the other way: moved[0] is never above 0 where the length falls, nor below 0 where it rises. It may be 0
  *   though moved[1] is not.
+ * - Exactly as much: let S be the set that plates_choose gives of the given outline, for the same count and way. Where S spans the
+ *   revised branch and the length rises, the best rises by exactly the difference: moved[0] equals moved[1]. Where S does not span
+ *   it and the length falls, moved[0] is 0. Either way S stays chosen: the N marks are the same, and so are cost, number of taxa
+ *   and spare. A length that stays as it is may be taken for either.
  * - A revised outline is one that plates_check accepts, as the given one is. The answer, marks, curve and work are what a call of
  *   plates_choose on it with the same buffers leaves.
+ *
+ * A set spans a branch if its diversity counts that length: rooted if a chosen taxon is at or below the record, unrooted if one is
+ * there and another one is elsewhere. So no plate changes where a branch that is in the book turns out longer, nor where one that
+ * is not turns out shorter. Of the other two nothing of the kind is promised, as the table shows: plate 11 is in the book and leaves
+ * it at length 1, plate 12 is not and comes in at length 6.
+ *
+ * It makes no difference in which buffers S was chosen. If plates_revise is handed the marks as that call left them, and S stays by
+ * this promise, no byte of them changes.
  *
  * The old best is what plates_choose tells of the given outline; its diversity is also that of the answer less moved[0]. A set of
  * plates costs the same before and after, so the given outline has a choice for a page count exactly if the revised one has.

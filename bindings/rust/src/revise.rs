@@ -12,6 +12,38 @@ use crate::sys;
 /// [`best_moved`](Revision::best_moved) is never larger in size than
 /// [`length_moved`](Revision::length_moved), and never of the other sign. It may be 0 though the
 /// length is another.
+///
+/// What was chosen before tells more. A set spans a branch if its diversity counts that length:
+/// rooted if one of its taxa is at or below the record, unrooted if one is there and another one is
+/// elsewhere. Where the set that [`Outline::choose`] gives spans the revised branch and the length
+/// rises, the best rises by exactly the difference; where it does not and the length falls, the best
+/// stays. Either way the set stays chosen, with the same cost and spare. A length that stays as it
+/// is may be taken for either. Where the set spans the branch and the length falls, or does not and
+/// it rises, another set may take its place.
+///
+/// ```
+/// use plates::{Outline, Refusal, Way};
+///
+/// let prices = [(11, 3), (12, 1), (13, 2)];
+/// let outline = Outline::from_newick("((11:4,12:2):3,13:5);", prices)?;
+/// let chosen = outline.choose(5, Way::Rooted)?; // plates 11 and 13, at records 3 and 5
+/// let revise = |record, length| outline.revise(record, length, 5, Way::Rooted);
+///
+/// // plate 11 is in the book and its branch grows; plate 12 is not and its branch shrinks
+/// let (longer, shorter) = (revise(3, 9)?, revise(4, 0)?);
+/// assert_eq!((longer.best_moved(), longer.length_moved()), (5, 5));
+/// assert_eq!((shorter.best_moved(), shorter.length_moved()), (0, -2));
+/// assert_eq!(longer.choice().marks(), chosen.marks());
+/// assert_eq!(shorter.choice().marks(), chosen.marks());
+///
+/// // the other way round plate 12 takes the place of plate 11
+/// let (shorter, longer) = (revise(3, 0)?, revise(4, 9)?);
+/// assert_eq!((shorter.best_moved(), shorter.length_moved()), (-2, -4));
+/// assert_eq!((longer.best_moved(), longer.length_moved()), (5, 7));
+/// assert_eq!(shorter.choice().marks(), [0, 0, 0, 1, 1]);
+/// assert_eq!(longer.choice().marks(), [0, 0, 0, 1, 1]);
+/// # Ok::<(), Refusal>(())
+/// ```
 #[derive(Clone, Debug, PartialEq, Eq, Hash)]
 pub struct Revision {
     choice: Choice,

@@ -1,10 +1,10 @@
 //! Revising a length: what is chosen then, how far the best moves, what is promised of that, the
 //! revised outline, the refusals, and the buffers.
 
-use crate::support::{bytes, chain, changed, faulty, fields_of, headed_a, locked_a, outline};
-use crate::support::{outlines, plates, sound, star, star_records, tree_a};
+use crate::support::{bytes, chain, changed, faulty, fields_of, headed_a, held, locked_a};
+use crate::support::{outline, outlines, plates, sound, star, star_records, tree_a};
 use crate::support::{Buffers, Draw, LOCK, TREE_A, WAYS};
-use plates::{choose_in, sys, Outline, Refusal, Revision, Tree, Way, Work};
+use plates::{choose_in, sys, Choice, Outline, Refusal, Revision, Tree, Way, Work};
 use plates::{MOST_COUNT, MOST_RECORDS};
 use std::thread;
 
@@ -236,6 +236,64 @@ fn the_best_moves_no_farther_than_the_length_and_not_the_other_way() {
     });
     let least = up.iter().chain(&down).chain([&not]).min();
     assert!(least >= Some(&100), "{up:?} {down:?} {not}");
+}
+
+/// Whether a choice's diversity counts the length of a record.
+fn spans(tree: &Outline, choice: &Choice, record: u32, way: Way) -> bool {
+    let record = tree.record(record).expect("there is a record");
+    let held = held(tree, choice.taxa(), record);
+    held > 0 && (way == Way::Rooted || held < choice.taxa().len())
+}
+
+#[test]
+fn what_was_chosen_tells_by_how_much_and_stays() {
+    // spanned and longer, not spanned and shorter, either as it was
+    let mut met = [0; 3];
+    for_each_call(6, |tree, change, count, way| {
+        let chosen = tree.choose(count, way).unwrap();
+        let revision = revised(tree, change, count, way);
+        let [best, length] = moved(&revision);
+        let kind = match (spans(tree, &chosen, change[0], way), length.signum()) {
+            (true, 1) => 0,
+            (false, -1) => 1,
+            (_, 0) => 2,
+            _ => return,
+        };
+        assert_eq!(best, [length, 0, 0][kind]);
+        let stays = revision.choice();
+        assert_eq!(stays.marks(), chosen.marks());
+        assert_eq!(
+            i64::from(stays.diversity()),
+            i64::from(chosen.diversity()) + best
+        );
+        assert_eq!(
+            (stays.cost(), stays.spare()),
+            (chosen.cost(), chosen.spare())
+        );
+        met[kind] += 1;
+    });
+    assert!(met.iter().all(|&times| times >= 100), "{met:?}");
+}
+
+#[test]
+fn another_set_may_be_chosen_where_it_spans_what_shrinks_or_does_not_span_what_grows() {
+    // how often, and how often the best moves by something else than the chosen set does
+    let (mut other_set, mut other_best) = ([0; 2], [0; 2]);
+    for_each_call(7, |tree, change, count, way| {
+        let chosen = tree.choose(count, way).unwrap();
+        let revision = revised(tree, change, count, way);
+        let [best, length] = moved(&revision);
+        let spanned = spans(tree, &chosen, change[0], way);
+        if spanned == (length < 0) && length != 0 {
+            let own = if spanned { length } else { 0 };
+            let stays = revision.choice().marks() == chosen.marks();
+            assert!(!stays || best == own);
+            other_set[usize::from(spanned)] += usize::from(!stays);
+            other_best[usize::from(spanned)] += usize::from(best != own);
+        }
+    });
+    let least = other_set.iter().chain(&other_best).min();
+    assert!(least >= Some(&100), "{other_set:?} {other_best:?}");
 }
 
 #[test]

@@ -218,7 +218,7 @@ impl Draw {
 }
 
 /// How many of the taxa a record is, or has below it.
-fn held(outline: &Outline, taxa: &[Record], record: Record) -> usize {
+pub fn held(outline: &Outline, taxa: &[Record], record: Record) -> usize {
     let members = successors(outline.record(record.first), |m| outline.record(m.next));
     let below: usize = members.map(|member| held(outline, taxa, member)).sum();
     below + usize::from(taxa.contains(&record))
