@@ -378,13 +378,14 @@ pub fn beside_old_set(call: &ReviseCall, old: &[u8], observed: &ReviseObserved) 
     let (best, marks) = (observed.moved()[0], after.marks.content().get(..old.len()));
     let records = outline::records(&call.revised().outline);
     let [cost, diversity] = sheet::sums(&records, call.given.way, old);
-    let answer = [diversity, cost, sheet::chosen(&records, old).len() as u32];
-    let told = &after.answer.content()[2..5];
+    let taxa = sheet::chosen(&records, old).len() as u32;
+    let answer = [diversity, cost, taxa, call.given.count - cost];
+    let told = &after.answer.content()[2..6];
     let differences = [
         (best != branch.own()).then(|| format!("the best moved by {best}")),
         (marks != Some(old)).then(|| format!("{marks:?} is chosen")),
         (told != answer)
-            .then(|| format!("diversity, cost, taxa: expected {answer:?}, got {told:?}")),
+            .then(|| format!("diversity, cost, taxa, spare: expected {answer:?}, got {told:?}")),
     ];
     let spans = if branch.is_spanned {
         "spans"
@@ -392,7 +393,7 @@ pub fn beside_old_set(call: &ReviseCall, old: &[u8], observed: &ReviseObserved) 
         "does not span"
     };
     let before = format!(
-        "{old:?} before {spans} a branch moved by {}",
+        "the set before, {old:?}, {spans} a branch moved by {}",
         branch.difference
     );
     let differences = differences.into_iter().flatten();
@@ -404,7 +405,7 @@ pub fn beside_old_set(call: &ReviseCall, old: &[u8], observed: &ReviseObserved) 
 /// Where a revision in the buffers that a choice from the outline before has left does not go with one in the buffers as they were
 /// before that choice, or, where the set is promised to stay, with what the choice has left: every byte of the marks, and the answer
 /// but for the diversity.
-pub fn after_choice(
+pub fn beside_used_buffers(
     call: &ReviseCall,
     old: &ChooseObserved,
     fresh: &ReviseObserved,
@@ -426,6 +427,7 @@ pub fn after_choice(
         .collect()
 }
 
+/// Where the set is promised to stay and the marks, or the answer but for the diversity, are not what the choice has left.
 fn not_left(call: &ReviseCall, old: &ChooseObserved, observed: &ReviseObserved) -> Vec<String> {
     let after = &observed.chosen.after;
     let branch = Branch::of(call, old.marks(call.records()));
@@ -1222,7 +1224,7 @@ mod tests {
 
     #[test]
     fn a_revision_that_does_not_keep_the_old_set_is_noticed_where_that_is_promised() {
-        let alter: [Alter; 7] = [
+        let alter: [Alter; 8] = [
             |o| o.moved_after.cells[o.moved_after.start] ^= 1,
             |o| alter_mark(o, 1),
             |o| alter_mark(o, 3),
@@ -1230,6 +1232,7 @@ mod tests {
             |o| alter_answer(o, 2),
             |o| alter_answer(o, 3),
             |o| alter_answer(o, 4),
+            |o| alter_answer(o, 5),
         ];
         let altered = |observed: &ReviseObserved, alter: Alter| {
             let mut altered = observed.clone();
@@ -1241,10 +1244,10 @@ mod tests {
             let found = |observed: &ReviseObserved| beside_old_set(&call, &OLD, observed);
             assert_eq!(found(&observed), [""; 0]);
             for alter in alter {
-                let mut altered = altered(&observed, alter);
-                assert_eq!(found(&altered).len(), usize::from(promised));
-                altered.chosen.returned = 9;
-                assert_eq!(found(&altered), [""; 0]);
+                let mut other = altered(&observed, alter);
+                assert_eq!(found(&other).len(), usize::from(promised));
+                other.chosen.returned = 9;
+                assert_eq!(found(&other), [""; 0]);
             }
             // a mark that stands for no record
             assert_eq!(found(&altered(&observed, |o| alter_mark(o, 6))), [""; 0]);
@@ -1255,12 +1258,13 @@ mod tests {
     fn what_does_not_keep_the_old_set_is_said() {
         let (call, mut observed) = revised(3, 9, [9, 20, 200]);
         observed.moved_after.write(&[4]);
-        let before = "[0, 0, 1, 0, 1] before spans a branch moved by 5";
+        let before = "the set before, [0, 0, 1, 0, 1], spans a branch moved by 5";
         let text = format!("{before}: the best moved by 4");
         assert_eq!(beside_old_set(&call, &OLD, &observed), [text]);
         observed.moved_after.write(&[5]);
         alter_answer(&mut observed, 2);
-        let text = format!("{before}: diversity, cost, taxa: expected [17, 5, 2], got [16, 5, 2]");
+        let numbers = "expected [17, 5, 2, 0], got [16, 5, 2, 0]";
+        let text = format!("{before}: diversity, cost, taxa, spare: {numbers}");
         assert_eq!(beside_old_set(&call, &OLD, &observed), [text]);
     }
 
@@ -1291,15 +1295,15 @@ mod tests {
         for [record, length] in NOT_KEPT {
             let (call, fresh) = revised(record, length, [9, 20, 200]);
             let (old, again) = after_choosing(&call, &fresh);
-            assert_eq!(after_choice(&call, &old, &fresh, &again), [""; 0]);
+            assert_eq!(beside_used_buffers(&call, &old, &fresh, &again), [""; 0]);
             for alter in alter {
                 let mut altered = again.clone();
                 alter(&mut altered);
-                assert_eq!(after_choice(&call, &old, &fresh, &altered).len(), 1);
+                assert_eq!(beside_used_buffers(&call, &old, &fresh, &altered).len(), 1);
                 // where nothing is promised, what is wrong in fresh buffers too is not noticed here
                 let mut both = fresh.clone();
                 alter(&mut both);
-                assert_eq!(after_choice(&call, &old, &both, &altered), [""; 0]);
+                assert_eq!(beside_used_buffers(&call, &old, &both, &altered), [""; 0]);
             }
         }
     }
@@ -1319,12 +1323,12 @@ mod tests {
         for [record, length] in KEPT {
             let (call, fresh) = revised(record, length, [9, 20, 200]);
             let (old, again) = after_choosing(&call, &fresh);
-            assert_eq!(after_choice(&call, &old, &fresh, &again), [""; 0]);
+            assert_eq!(beside_used_buffers(&call, &old, &fresh, &again), [""; 0]);
             for alter in alter {
                 let [mut both, mut altered] = [fresh.clone(), again.clone()];
                 alter(&mut both);
                 alter(&mut altered);
-                assert_eq!(after_choice(&call, &old, &both, &altered).len(), 1);
+                assert_eq!(beside_used_buffers(&call, &old, &both, &altered).len(), 1);
             }
         }
     }

@@ -1,5 +1,5 @@
-//! A record that gets lengths one after another and its own again, compared with every subset; and what all steps so far come to,
-//! beside one step from the first outline.
+//! A record that gets lengths one after another and its own again, compared with every subset and beside the choice before each; and
+//! what all steps so far come to, beside one step from the first outline.
 
 use std::collections::HashMap;
 
@@ -205,7 +205,8 @@ impl Runner {
         }
         self.report.line(&format!(
             "G. a record of {outlines} outlines, and each of every shape of up to {SMALL} records filled {FILLINGS} times for page \
-             counts up to {SMALL_COUNT}, given lengths one after another and its own again, against every subset"
+             counts up to {SMALL_COUNT}, given lengths one after another and its own again, against every subset and beside the \
+             choice before each"
         ));
         self.report.met("with", &met.named(), outlines / 10);
         met.beside_old.report(&mut self.report, outlines / 10);

@@ -1,4 +1,4 @@
-//! Revisions worked by hand. They are ours: document 02, §10 and §11, states the rules and no case.
+//! Revisions worked by hand. They are ours: document 02, §10 and §11, state the rules and no case.
 
 use crate::call::{needed, Call};
 use crate::cases::{case_g, curve_of_g, group, taxon, tree_a, tree_b, tree_c, tree_d};
@@ -213,7 +213,7 @@ fn unrooted() -> Vec<ReviseCase> {
     ]
 }
 
-/// Tree A with a length of 6 at the root, which any set spans rooted, and none unrooted.
+/// Tree A with a length of 6 at the root, which any set but the empty one spans rooted, and none unrooted.
 fn of_the_root() -> Vec<ReviseCase> {
     let tree = |count, way| {
         let mut tree = tree_a_at(count, way);

@@ -340,6 +340,7 @@ struct Met {
     by_subsets: u64,
     /// How often the library chose before and after, and how often it refused both times.
     beside: [u64; 2],
+    /// What became of the set chosen before, of every call that is not refused.
     beside_old: Tally,
 }
 
@@ -372,25 +373,23 @@ impl Runner {
         comparison.differences.extend(beside(revising, &observed));
         self.add_revision(call, expected, &comparison)?;
         if revising.is(0) {
-            self.revise_after_choice(revising, &observed)?;
+            let used = after_choice(&library::revise, call, &observed);
+            self.add_used_buffers(call, expected, &observed, &used)?;
         }
         Ok(())
     }
 
-    /// As a program does that chooses first and then revises in the same buffers.
-    fn revise_after_choice(
+    /// As a program does that chooses first and then revises in the same buffers: that choice and the call after it.
+    fn add_used_buffers(
         &mut self,
-        revising: &Revising,
+        call: &ReviseCall,
+        expected: &ReviseExpected,
         fresh: &ReviseObserved,
+        (old, observed): &(ChooseObserved, ReviseObserved),
     ) -> Result<(), Stop> {
-        let Revising { call, expected, .. } = revising;
-        let (old, observed) = after_choice(&library::revise, call, fresh);
-        let mut comparison = compare::revise(expected, &observed);
-        let differences = compare::after_choice(call, &old, fresh, &observed);
+        let mut comparison = compare::revise(expected, observed);
+        let differences = compare::beside_used_buffers(call, old, fresh, observed);
         comparison.differences.extend(differences);
-        comparison
-            .differences
-            .extend(beside_old(revising, &observed));
         self.add_revision(call, expected, &comparison)
     }
 
@@ -446,9 +445,14 @@ impl Runner {
             let differences = beside_old_choices(call, old.as_ref(), &observed);
             comparison.differences.extend(differences);
             self.add_revision(call, expected, &comparison)?;
+            if expected.number() == 0 {
+                let used = on_small_stack(|| after_choice(&library::revise, call, &observed));
+                self.add_used_buffers(call, expected, &observed, &used)?;
+            }
         }
         self.report.line(&format!(
-            "H. {} revisions worked by hand, on a stack of {SMALL_STACK} bytes",
+            "H. {} revisions worked by hand, beside the choice before, and again in the buffers as that choice leaves them, on a \
+             stack of {SMALL_STACK} bytes",
             cases.len()
         ));
         beside_old.report(&mut self.report, 1);
@@ -456,12 +460,13 @@ impl Runner {
     }
 }
 
-/// Where the table does not go with every subset, or what was observed with what the library chooses before and after or with
-/// what is promised of a movement.
+/// Where the table does not go with every subset, or what was observed with what the library chooses before and after, with what is
+/// promised of a movement, or with what is promised beside the old choice.
 fn beside(revising: &Revising, observed: &ReviseObserved) -> Vec<String> {
     let Revising {
         call,
         expected,
+        old,
         by_subsets,
         ..
     } = revising;
@@ -475,7 +480,7 @@ fn beside(revising: &Revising, observed: &ReviseObserved) -> Vec<String> {
     if [0, 9, 12].contains(&expected.number()) {
         differences.extend(beside_library(call, observed));
     }
-    differences.extend(beside_old(revising, observed));
+    differences.extend(beside_old_choices(call, old.as_ref(), observed));
     differences
 }
 
@@ -510,12 +515,8 @@ fn after_choice(
     (old, again)
 }
 
-fn beside_old(revising: &Revising, observed: &ReviseObserved) -> Vec<String> {
-    beside_old_choices(&revising.call, revising.old.as_ref(), observed)
-}
-
-/// Where what was observed does not go with the choice before, as it is expected or as the library makes it. On a refusal there is
-/// none, and nothing to go with.
+/// Where what was observed does not go with the choice before, as it is expected or, if that is another one, as the library makes it.
+/// On a refusal there is none, and nothing to go with.
 pub(crate) fn beside_old_choices(
     call: &ReviseCall,
     expected: Option<&Expected>,
@@ -527,7 +528,9 @@ pub(crate) fn beside_old_choices(
     let chosen = old_choice(call, &observed.chosen.before);
     let mut differences = compare::beside_old_set(call, &expected.marks, observed);
     let old = chosen.marks(call.records());
-    differences.extend(compare::beside_old_set(call, old, observed));
+    if old != expected.marks {
+        differences.extend(compare::beside_old_set(call, old, observed));
+    }
     differences
 }
 
@@ -701,6 +704,13 @@ mod tests {
         revise_cases::all().into_iter().map(both).collect()
     }
 
+    /// The largest take long and show no more.
+    fn stated_but_for_the_largest() -> Vec<Expectation> {
+        let mut stated = stated();
+        stated.retain(|(call, _)| call.given.count < 4_000);
+        stated
+    }
+
     /// By the table.
     fn random(calls: usize) -> Vec<Expectation> {
         let rng = &mut Random::new(1);
@@ -807,11 +817,8 @@ mod tests {
     }
 
     #[test]
-    fn what_breaks_a_promise_is_noticed_by_the_old_set_alone_and_nothing_else_is() {
-        let mut stated = stated();
-        // the largest take long and show no more
-        stated.retain(|(call, _)| call.given.count < 4_000);
-        for calls in [stated, random(2_000)] {
+    fn what_breaks_a_promise_is_noticed_by_the_old_set_alone_and_what_keeps_both_is_not() {
+        for calls in [stated_but_for_the_largest(), random(2_000)] {
             assert!(!is_noticed_beside_old(RIGHT, &calls));
             for (name, program) in wrong_revisions::named(&SHOWN_BY_THE_OLD_SET) {
                 assert!(is_noticed_beside_old(program, &calls), "{name}");
@@ -878,7 +885,7 @@ mod tests {
         "marks added to those that came",
     ];
 
-    /// Wrong programs that keep to both promises: they are wrong where nothing is promised.
+    /// Wrong programs that keep to both promises.
     const WRONG_BEYOND_THE_PROMISES: [&str; 13] = [
         "no movement downwards",
         "no movement where the set is another",
@@ -903,19 +910,20 @@ mod tests {
         accepted.any(|(call, _)| {
             let fresh = program(call, ReviseBuffers::random(call, rng));
             let (old, again) = after_choice(&program, call, &fresh);
-            !compare::after_choice(call, &old, &fresh, &again).is_empty()
+            !compare::beside_used_buffers(call, &old, &fresh, &again).is_empty()
         })
     }
 
     #[test]
     fn what_goes_wrong_in_used_buffers_alone_is_noticed_there() {
-        let mut calls = random(4_000);
-        // fewer marks may be a set as they come
-        calls.retain(|(call, _)| call.records() > 3);
-        assert!(!is_noticed_after_choice(RIGHT, &calls));
-        for (name, program) in wrong_revisions::in_used_buffers() {
-            assert!(!is_noticed(&program.run(), &calls), "{name}");
-            assert!(is_noticed_after_choice(program, &calls), "{name}");
+        for mut calls in [stated_but_for_the_largest(), random(4_000)] {
+            // fewer marks may be a set as they come
+            calls.retain(|(call, _)| call.records() > 3);
+            assert!(!is_noticed_after_choice(RIGHT, &calls));
+            for (name, program) in wrong_revisions::in_used_buffers() {
+                assert!(!is_noticed(&program.run(), &calls), "{name}");
+                assert!(is_noticed_after_choice(program, &calls), "{name}");
+            }
         }
     }
 
@@ -930,6 +938,28 @@ mod tests {
         let by_subsets = revising.by_subsets.as_mut().expect("few subsets");
         by_subsets.moved[0] += 1;
         assert_eq!(beside(&revising, &observed).len(), 1);
+    }
+
+    /// {4, 5} for {3, 5} of tree A, whose root is revised: that goes with another old choice, and not with the library's.
+    #[test]
+    fn a_set_that_does_not_go_with_an_old_choice_is_told_once() {
+        let rng = &mut Random::new(9);
+        let case = revise_cases::all().swap_remove(1);
+        let mut revising = Revising::of(case.call, rng);
+        let before = ReviseBuffers::random(&revising.call, rng);
+        let mut observed = RIGHT.run()(&revising.call, before);
+        let other = vec![0, 0, 0, 1, 1];
+        let after = &mut observed.chosen.after;
+        after.marks.write(&other);
+        after.answer.write(&[0, 0, 17, 3, 2, 2]);
+        let mut told = |old: Vec<u8>| {
+            revising.old.as_mut().expect("a choice before").marks = old;
+            beside_old_choices(&revising.call, revising.old.as_ref(), &observed).len()
+        };
+        // the marks and the answer
+        assert_eq!(told(vec![0, 0, 1, 0, 1]), 2);
+        assert_eq!(told(other), 2);
+        assert_eq!(told(vec![0, 0, 1, 1, 0]), 4);
     }
 
     /// {4, 5} for {3, 5} of tree A, whose root is revised: that is spanned by both.

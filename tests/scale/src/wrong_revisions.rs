@@ -43,18 +43,13 @@ const SIZE: Row = |call| {
 };
 const COUNT: Row = |call| rules::count_too_large(call.given.count);
 const CONTENT: Row = |call| rules::content(&outline::records(&call.given.outline));
-const REVISION: Row = |call| rules::without_place(16, is_bad(call, records(call)));
-const ROOM: Row = |call| rules::buffer_too_short(&call.given, records(call));
+const REVISION: Row = |call| rules::without_place(16, is_bad(call, call.records()));
+const ROOM: Row = |call| rules::buffer_too_short(&call.given, call.records());
 /// By what the library says of the outline as it is.
 const LOCKS: Row = |call| {
     let call = roomy(&call.given);
     rules::without_place(12, chosen(&call).returned == 12)
 };
-
-/// How many whole records there are.
-fn records(call: &ReviseCall) -> usize {
-    call.given.outline.len() / RECORD_BYTES
-}
 
 /// What a right program does.
 pub const RIGHT: Program = Program {
@@ -159,8 +154,8 @@ impl Choices {
 
     /// The marks before and after.
     fn marks(&self) -> [&[u8]; 2] {
-        let records = records(&self.call);
-        [&self.old, &self.new].map(|choice| &choice.after.marks.content()[..records])
+        let records = self.call.records();
+        [&self.old, &self.new].map(|choice| choice.marks(records))
     }
 
     /// The revised branch beside the set chosen before.
@@ -501,7 +496,7 @@ fn revision(
     number: impl Fn(u32) -> u64,
     length: impl Fn(u32) -> u32,
 ) -> Option<Refusal> {
-    let named = 1..=records(call) as u64;
+    let named = 1..=call.records() as u64;
     let bad = !named.contains(&number(call.record)) || length(call.length) > MOST_LENGTH;
     rules::without_place(16, bad)
 }
@@ -509,7 +504,7 @@ fn revision(
 /// 9 where fewer marks, curve numbers or work numbers than needed and so many more are there.
 fn room(call: &ReviseCall, more: [usize; 3]) -> Option<Refusal> {
     let given = &call.given;
-    let needed = needed(records(call), given.count);
+    let needed = needed(call.records(), given.count);
     let lengths = [given.marks, given.curve, given.work];
     let mut short = lengths.into_iter().zip(needed).zip(more);
     let short = short.any(|((length, needed), more)| length < needed + more);
@@ -549,7 +544,7 @@ const WRAPPED_PLACE: Row = |call| {
     revision(call, number, |length| length)
 };
 const WITH_A_SIGN: Row = |call| {
-    let bad = call.record as i32 > records(call) as i32 || call.record == 0;
+    let bad = call.record as i32 > call.records() as i32 || call.record == 0;
     rules::without_place(16, bad || call.length > MOST_LENGTH)
 };
 const LENGTH_BELOW_MOST: Row = |call| revision(call, u64::from, |length| length.saturating_add(1));
@@ -740,7 +735,7 @@ const WRITING: [Otherwise<Alter>; 47] = [
     }),
     ("the rest of the marks cleared", |choices, observed| {
         if observed.chosen.returned == 0 {
-            clear(&mut observed.chosen.after.marks, records(&choices.call));
+            clear(&mut observed.chosen.after.marks, choices.call.records());
         }
     }),
     ("the rest of the curve cleared", |choices, observed| {
@@ -752,7 +747,7 @@ const WRITING: [Otherwise<Alter>; 47] = [
     ("one mark past the last written", |choices, observed| {
         if observed.chosen.returned == 0 {
             let marks = &mut observed.chosen.after.marks;
-            marks.cells[marks.start + records(&choices.call)] ^= 1;
+            marks.cells[marks.start + choices.call.records()] ^= 1;
         }
     }),
     ("marks cleared on a refusal by 16", |_, observed| {
@@ -935,7 +930,7 @@ const USED: [Otherwise<Alter>; 3] = [
     ("marks that came as a set left", |choices, observed| {
         let came = observed.chosen.before.marks.content();
         let is_set = |came: &[u8]| came.iter().all(|&mark| mark < 2);
-        match came.get(..records(&choices.call)) {
+        match came.get(..choices.call.records()) {
             Some(came) if observed.chosen.returned == 0 && is_set(came) => {
                 observed.chosen.after.marks.write(came);
             }
