@@ -83,8 +83,7 @@ module _ (c : Call) {r : Reply Figures} {marks curve work : List ℕ} (x : Answe
     fit : cost c.outline (locked_set c.outline) ≤ c.count
     fit = (selected_solvable c selected_row).searchable.locked_fit
 
-    -- the set that is marked is the exhaustive search's
-    pub marked_is : marked_set c marks ≡ best_set c
+    marked_is : marked_set c marks ≡ best_set c
     unfolding marks_after over
     marked_is = rw (x.marks_written, selected_row) (take_at (best_set c) _ (size c.outline) (optimum_set c.outline c.way c.count fit).whole)
 
@@ -181,7 +180,7 @@ best_told {c = c} at x z =
     let f = demand_3 c x z in
     f.diversity_is_shown ∙ (f.columns c.count (omega arith)).searched.0 ∙ rw (at.outline_is, at.way_is, at.count_is)
 
--- and marks the set that it ends with
+-- and marks the set with which that search ends
 pub best_marked : {o : List ℕ} {count way : ℕ} {c : Call} → CallAt o count way c → {r : Reply Figures} {marks curve work : List ℕ}
     → Answered c r marks curve work → r.number ≡ 0 → take (size o) marks ≡ optimum o way count
 best_marked {c = c} at {marks = marks} x z =

@@ -1,5 +1,5 @@
 -- Outlines that are alike: as long as each other, with the same links and plate fields. Their sets of taxa are the same, and so is what a set
--- has below each record and how many it has; with the same prices its cost is the same.
+-- has below each record and its number of taxa; with the same prices its cost is the same.
 use Rattle.std.specs.Prelude.{if◌then◌else◌, ◌⊎◌}
 use Prim.Native.Nat.{ℕ, zero, suc, ◌-◌, ◌/◌, ◌%◌}
 use mathlib.Core.Path.{◌≡◌, refl, sym, ap, ap₂, subst, fun_ext, ◌∙◌}

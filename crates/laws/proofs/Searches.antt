@@ -35,8 +35,8 @@ module _ (o p : List ℕ) (b : ℕ) (passes : Passes o p b) (fit : cost o (locke
       omega (arith, shown_diversity o way b fit, most s (optimum_set o way b fit), greatest_diversity p way b s x f)
 
 -- two sets can't each lack the first taxon on which they differ
-one_lacks : {s t : List ℕ} → Lacks s t → Lacks t s → ⊥
-one_lacks {s} {t} x y = go (ltb x.at y.at) refl (ltb y.at x.at) refl
+not_both_lack : {s t : List ℕ} → Lacks s t → Lacks t s → ⊥
+not_both_lack {s} {t} x y = go (ltb x.at y.at) refl (ltb y.at x.at) refl
   where
     go : (a : Bool) → ltb x.at y.at ≡ a → (c : Bool) → ltb y.at x.at ≡ c → ⊥
     go true e c f = false≢true (sym x.lacks ∙ y.before x.at x.low (ltb-true _ _ e) ∙ x.has)
@@ -54,11 +54,11 @@ module _ (o p : List ℕ) (b : ℕ) (there : Passes o p b) (here : Passes p o b)
   abbrev new : List ℕ
   new = optimum p way b
 
-  -- t gains no more than it
+  -- from o to p the diversity of t gains no more than that of o's best set
   abbrev GainsNoMore : List ℕ → Type 0
   GainsNoMore t = diversity p way t + diversity o way old ≤ diversity p way old + diversity o way t
 
-  -- so neither of two sets can be behind the other
+  -- then it can't be that the new best set is behind the old one on o, and the old one behind the new one on p
   never : GainsNoMore new → Behind o way old new → Behind p way new old → ⊥
   never l (less_diversity d) (less_diversity e) = omega arith
   never l (less_diversity d) (more_cost e k) = omega arith
@@ -68,7 +68,7 @@ module _ (o p : List ℕ) (b : ℕ) (there : Passes o p b) (here : Passes p o b)
   never l (more_cost d k) (lacks_first e m y) = omega (arith, costs old, costs new)
   never l (lacks_first d k x) (less_diversity e) = omega arith
   never l (lacks_first d k x) (more_cost e m) = omega (arith, costs old, costs new)
-  never l (lacks_first d k x) (lacks_first e m y) = one_lacks x y
+  never l (lacks_first d k x) (lacks_first e m y) = not_both_lack x y
 
   pub set_stays : ((t : List ℕ) → IsSet o t → Fits o b t → GainsNoMore t) → new ≡ old
   set_stays most =

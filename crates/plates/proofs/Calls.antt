@@ -89,8 +89,7 @@ module _ {c : quick.Call} {n : ℕ} {answer : List ℕ} {ceiling : ℕ} {marks :
 
 -- so it is with revising a length: the best diversity moves with the length; the revised outline is the given one with that length, and
 -- accepted, and the same sets fit it; what is given and left is what `plates_choose` on it, lent the same buffers, gives and leaves; on the given
--- outline that is not refused either, and the best diversity moved from what any such call is told there; where the set that such a call marks
--- spans the branch and the length rises, by exactly as much, where it does not and the length falls, not at all, and that set stays marked
+-- outline that is not refused either, and the best diversity moved from what any such call is told there
 module _ {c : revise.Call} {n : ℕ} {answer : List ℕ} {moved : List ℤ} {marks curve work : List ℕ} (x : LengthRevised c n answer moved marks curve work) where
   pub revised_decided : revisions.RevisedOrRefused c (revised_in moved answer) marks curve work
   revised_decided = revise_decided c x.given.answered
@@ -131,6 +130,9 @@ module _ {c : revise.Call} {n : ℕ} {answer : List ℕ} {moved : List ℤ} {mar
         → Chosen d k answer' marks' curve' work' → k ≡ 0 → revisions.MovementsTrue c (revised_in moved answer) (chosen_in answer')
     revised_movements at y f = movements_true c x.given.answered told_0 at y.answered (sym y.number_given ∙ f)
 
+    -- beside any such call, say the one before, in the same buffers: where the set that it marked spans the branch and the length rises, the best
+    -- rises by exactly as much; where it does not and the length falls, the best stays; and that set stays marked. The call of `plates_revise`
+    -- that told of the given outline is such a call too, by `revised_chosen`
     pub revised_exactly : {d : choose.Call} → choices.CallAt c.outline c.count c.way d → {k : ℕ} {answer' before curve' work' : List ℕ}
         → Chosen d k answer' before curve' work' → k ≡ 0
         → revisions.ExactlyAsMuch c (revised_in moved answer) marks (chosen_in answer') before

@@ -116,10 +116,13 @@ module _ (c : Call) {r : Reply Figures} {marks curve work : List ℕ} (x : Answe
     unfolding choose.reply
     old_chosen y = ap (λ (a : Reply Choice). a.number) y.told_reply ∙ rw (old_selected c passes)
 
+    -- that is a call on the revised outline, at the same count and by the same way
+    pub new_at : CallAt (new_outline c) c.count c.way (new_choice c)
+    new_at = record { outline_is = refl; count_is = refl; way_is = refl }
+
     -- the best diversity moved from what any call of `choose` on the given outline is told to what is told here
     pub movements_true : {d : choose.Call} → CallAt c.outline c.count c.way d → {old : Reply Choice} {m k w : List ℕ}
         → choose.Answered d old m k w → old.number ≡ 0 → MovementsTrue c r old
     unfolding figures
     movements_true at {old} y f =
-        let own : CallAt (new_outline c) c.count c.way (new_choice c) = record { outline_is = refl; count_is = refl; way_is = refl } in
-        record { best_true = rw (best_told at y f, best_told own chosen z, told_is); length_true = rw told_is }
+        record { best_true = rw (best_told at y f, best_told new_at chosen z, told_is); length_true = rw told_is }

@@ -1,5 +1,6 @@
 -- Two outlines that differ only in the length of record r: a set's diversity differs by as much if it counts that length, else not; so the best
--- diversity moves with the length and never by more, by exactly as much or not at all where the best set says so, and then that set stays.
+-- diversity moves with the length and never by more; where the best set counts that length and it rises, by exactly as much; where it does not
+-- count it and it falls, not at all; and then that set stays the best.
 use Rattle.std.specs.Prelude.{if◌then◌else◌}
 use Prim.Native.Nat.{ℕ, ◌+◌, ◌*◌, ◌-◌, ◌≤◌}
 use mathlib.Core.Path.{◌≡◌, refl, sym, ap, ap₂, fun_ext, ◌∙◌}
@@ -132,7 +133,8 @@ module _ (o p : List ℕ) (r : ℕ) (d : OneLength o p r) (b : ℕ) (fit : cost 
         (omega arith, omega arith);
   }
 
-  -- with such a length no set gains more than one that counts it, as it rises, nor than one that does not, as it falls; so the best set stays
+  -- as the length rises, no set gains more than one that counts it; as it falls, none gains more than one that does not. So the best set stays
+  -- where it is such a one
   module _ (way : ℕ) where
     abbrev old : List ℕ
     old = optimum o way b

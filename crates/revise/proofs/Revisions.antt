@@ -1,11 +1,11 @@
--- An outline that keeps the rules, with another length of one record, keeps them, and its best diversity moves with the length.
-use Prim.Native.Nat.{ℕ, ◌≤◌}
+-- An outline that keeps the rules, with another length of one record, keeps them, and its best diversity moves with the length: by exactly as
+-- much, or not at all, where the old best set spans the branch and it rises, or does not and it falls.
+use Prim.Native.Nat.{ℕ, ◌+◌, ◌≤◌}
 use mathlib.Core.Path.{◌≡◌, refl, sym, subst, ◌∙◌}
 use mathlib.Core.Bool.{Bool, true, false}
 use mathlib.Core.List.{List}
 use native.Mathlib.Omega.{arith}
 use lib.Dec.{eqb}
-use lib.IntN.{pos}
 use borrow.Author.Tests.{eqb-true, eqb-false}
 use Rattle.outline.specs.Outline.{branch, IsRecord}
 use Rattle.outline.specs.Rules.{most_length}
@@ -20,7 +20,7 @@ use Rattle.revise.specs.Moved.{moved, MovesWith}
 use Rattle.revise.specs.Spans.{spans}
 use Rattle.revise.specs.Demands.{SameSetsFit}
 use Rattle.revise.proofs.Bytes.{revised_alike, revised_price, other_length, new_length}
-use Rattle.revise.proofs.Signs.{moved_alike, moved_nowhere, moves_signed}
+use Rattle.revise.proofs.Signs.{moves_signed}
 use Rattle.revise.proofs.Lengths.{Moves, OneLength, one_length_back, length_passes, length_fit, best_moves, spanned_rises, unspanned_falls}
 
 module _ (o : List ℕ) (r n : ℕ) (is : IsRecord o r) where
@@ -55,21 +55,18 @@ module _ (o : List ℕ) (r n : ℕ) (is : IsRecord o r) where
         (subst (Moves (best_diversity o way b) (best_diversity (revised o r n) way b) (branch o r)) revised_branch
         (best_moves o (revised o r n) r one_length b fit way))
 
-    -- where the best set spans the branch and the length rises, that set stays, and the best diversity moves as the length does
+    -- where the best set spans the branch and the length rises, that set stays, and the best diversity rises by the difference
     pub rises_exactly : (way b : ℕ) → cost o (locked_set o) ≤ b → spans o way (optimum o way b) r ≡ true → branch o r ≤ n
         → (optimum (revised o r n) way b ≡ optimum o way b)
-        × (moved (best_diversity o way b) (best_diversity (revised o r n) way b) ≡ moved (branch o r) n)
+        × (best_diversity (revised o r n) way b + branch o r ≡ best_diversity o way b + n)
     rises_exactly way b fit e h =
         let (same, best) = spanned_rises o (revised o r n) r one_length b fit way e (rw revised_branch h) in
-        (same, moved_alike _ _ (branch o r) n h (rw revised_branch at best))
+        (same, rw revised_branch at best)
 
     -- where it does not and the length falls, that set stays, and the best diversity too
     pub stays_exactly : (way b : ℕ) → cost o (locked_set o) ≤ b → spans o way (optimum o way b) r ≡ false → n ≤ branch o r
-        → (optimum (revised o r n) way b ≡ optimum o way b)
-        × (moved (best_diversity o way b) (best_diversity (revised o r n) way b) ≡ pos 0)
-    stays_exactly way b fit e h =
-        let (same, best) = unspanned_falls o (revised o r n) r one_length b fit way e (rw revised_branch h) in
-        (same, rw best (moved_nowhere (best_diversity o way b)))
+        → (optimum (revised o r n) way b ≡ optimum o way b) × (best_diversity (revised o r n) way b ≡ best_diversity o way b)
+    stays_exactly way b fit e h = unspanned_falls o (revised o r n) r one_length b fit way e (rw revised_branch h)
 
     branch_ranged : (q : ℕ) → IsRecord o q → branch o q ≤ most_length → branch (revised o r n) q ≤ most_length
     branch_ranged q i h = go (eqb q r) refl

@@ -38,7 +38,7 @@ still_down b = record {
 pub both_still : MovesWith (pos 0) (pos 0)
 both_still = both_up 0 0 (omega arith)
 
--- where the sums are the same, they move alike
+-- two numbers that rise by as much move alike
 pub moved_alike : (old new from to : ℕ) → from ≤ to → new + from ≡ old + to → moved old new ≡ moved from to
 moved_alike old new from to h e = moved_up old new (omega arith) ∙ ap pos (omega arith) ∙ sym (moved_up from to h)
 

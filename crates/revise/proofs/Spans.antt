@@ -1,4 +1,4 @@
--- What it is that a set spans a record's branch: its diversity is the sum of these lengths.
+-- A set's diversity is the sum of the lengths of the records whose branches it spans: that is what `spans` means.
 use Rattle.std.specs.Prelude.{if◌then◌else◌}
 use Prim.Native.Nat.{ℕ}
 use mathlib.Core.Path.{◌≡◌, refl}

@@ -1,5 +1,5 @@
--- Worked calls of revising a length: tree A at page count 5, where plates 11 and 13 are best, rooted and unrooted; and refusals. Then calls that
--- follow upon one of `choose`, of lengths that its set spans and that it does not.
+-- Worked calls of revising a length: tree A at page count 5, where plates 11 and 13 are best, rooted and unrooted; and refusals. Then calls after one
+-- of `choose`, for branches that its set spans and that it does not.
 use Rattle.std.specs.Prelude.{ℕ, ◌+◌, ℤ, pos, negsuc, ◌≡◌, refl, Bool, true, false, replicate}
 use mathlib.Core.List.{List, [], ◌∷◌, ◌++◌, map}
 use Rattle.lists.specs.Lists.{from, anywhere, total, lowest, over}
@@ -120,6 +120,9 @@ first_cases =
     ∷ chosen_first 3 0 0 true (negsuc 1) (negsuc 3) twelve
     -- not promised: plate 12 is not in the book, and its length rises to 9; it takes the place of plate 11
     ∷ chosen_first 4 9 0 false (pos 5) (pos 7) twelve
+    -- a length that stays as it is, of either
+    ∷ chosen_first 3 4 0 true (pos 0) (pos 0) eleven
+    ∷ chosen_first 4 2 0 false (pos 0) (pos 0) eleven
     -- unrooted alike
     ∷ chosen_first 3 9 1 true (pos 5) (pos 5) eleven
     ∷ chosen_first 4 0 1 false (pos 0) (negsuc 1) eleven

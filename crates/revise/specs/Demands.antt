@@ -55,8 +55,8 @@ pub record MovementsTrue (c : Call) (r : Reply Figures) (old : Reply Choice) : T
 abbrev pub old_spans : Call → List ℕ → Bool
 old_spans c before = spans c.outline c.way (marked_set (old_choice c) before) c.changed
 
--- the set that was chosen stays chosen: the marks of the outline's records are the same, and what is told of the set but its diversity; and
--- where marks are lent as the old choice left them, no byte of them changes
+-- the same set stays chosen: the marks of the outline's records are the same, and so are the cost, the number of taxa and the spare that are
+-- told; and where marks are lent as the old choice left them, no byte of them changes
 pub record SetStays (c : Call) (r : Reply Figures) (marks : List ℕ) (old : Reply Choice) (before : List ℕ) : Type 0 where
   pub same_set : marked_set (old_choice c) marks ≡ marked_set (old_choice c) before
   pub same_cost : r.figures.choice.cost ≡ old.figures.cost
@@ -64,11 +64,21 @@ pub record SetStays (c : Call) (r : Reply Figures) (marks : List ℕ) (old : Rep
   pub same_spare : r.figures.choice.spare ≡ old.figures.spare
   pub same_buffer : c.marks ≡ before → marks ≡ before
 
--- what is told and marked, where a choice on the given outline is told `old` and leaves the marks `before`: where it spans the revised branch
--- and the length rises, the best rises by exactly the difference, and the same set stays chosen; where it does not span it and the length
--- falls, the movement is 0 and the set also stays. A length that stays as it is may be taken for either
+-- "the best must rise by exactly the difference, and the same set stays chosen"
+pub record RisesExactly (c : Call) (r : Reply Figures) (marks : List ℕ) (old : Reply Choice) (before : List ℕ) : Type 0 where
+  pub moved_as_length : r.figures.moved.best ≡ r.figures.moved.length
+  pub diversity_rises : r.figures.choice.diversity + branch c.outline c.changed ≡ old.figures.diversity + c.to
+  pub set_stays : SetStays c r marks old before
+
+-- "the movement is 0 and the set also stays"
+pub record StaysExactly (c : Call) (r : Reply Figures) (marks : List ℕ) (old : Reply Choice) (before : List ℕ) : Type 0 where
+  pub moved_nowhere : r.figures.moved.best ≡ pos 0
+  pub diversity_stays : r.figures.choice.diversity ≡ old.figures.diversity
+  pub set_stays : SetStays c r marks old before
+
+-- what is told and marked, where a choice on the given outline, at the same count and by the same way, is told `old` and leaves the marks
+-- `before`: where that spans the revised branch and the length rises, and where it does not span it and the length falls. A length that stays
+-- as it is is among both: where it is spanned it counts as rising, else as falling
 pub record ExactlyAsMuch (c : Call) (r : Reply Figures) (marks : List ℕ) (old : Reply Choice) (before : List ℕ) : Type 0 where
-  pub spanned_rises : old_spans c before ≡ true → branch c.outline c.changed ≤ c.to
-      → (r.figures.moved.best ≡ r.figures.moved.length) × SetStays c r marks old before
-  pub unspanned_falls : old_spans c before ≡ false → c.to ≤ branch c.outline c.changed
-      → (r.figures.moved.best ≡ pos 0) × SetStays c r marks old before
+  pub spanned_rises : old_spans c before ≡ true → branch c.outline c.changed ≤ c.to → RisesExactly c r marks old before
+  pub unspanned_falls : old_spans c before ≡ false → c.to ≤ branch c.outline c.changed → StaysExactly c r marks old before
