@@ -130,9 +130,9 @@ module _ {c : revise.Call} {n : ℕ} {answer : List ℕ} {moved : List ℤ} {mar
         → Chosen d k answer' marks' curve' work' → k ≡ 0 → revisions.MovementsTrue c (revised_in moved answer) (chosen_in answer')
     revised_movements at y f = movements_true c x.given.answered told_0 at y.answered (sym y.number_given ∙ f)
 
-    -- beside any such call, say the one before, in the same buffers: where the set that it marked spans the branch and the length rises, the best
-    -- rises by exactly as much; where it does not and the length falls, the best stays; and that set stays marked. The call of `plates_revise`
-    -- that told of the given outline is such a call too, by `revised_chosen`
+    -- beside any such call at the same count and by the same way, say the one before, in the same buffers: where the set that it marked spans the
+    -- branch and the length rises, the best rises by exactly as much; where it does not and the length falls, the best stays; and that set
+    -- stays marked. A call of `plates_revise` of which this outline is the revised one is such a call too, by `revised_chosen`
     pub revised_exactly : {d : choose.Call} → choices.CallAt c.outline c.count c.way d → {k : ℕ} {answer' before curve' work' : List ℕ}
         → Chosen d k answer' before curve' work' → k ≡ 0
         → revisions.ExactlyAsMuch c (revised_in moved answer) marks (chosen_in answer') before
