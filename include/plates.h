@@ -253,7 +253,7 @@
  * - Exactly as much: let S be the set that plates_choose gives of the given outline, for the same count and way. Where S spans the
  *   revised branch and the length rises, the best rises by exactly the difference: moved[0] equals moved[1]. Where S does not span
  *   it and the length falls, moved[0] is 0. Either way S stays chosen: the N marks are the same, and so are cost, number of taxa
- *   and spare. A length that stays as it is may be taken for either.
+ *   and spare. Both hold of a length that stays as it is.
  * - A revised outline is one that plates_check accepts, as the given one is. The answer, marks, curve and work are what a call of
  *   plates_choose on it with the same buffers leaves.
  *
@@ -262,8 +262,9 @@
  * is not turns out shorter. Of the other two nothing of the kind is promised, as the table shows: plate 11 is in the book and leaves
  * it at length 1, plate 12 is not and comes in at length 6.
  *
- * It makes no difference in which buffers S was chosen. If plates_revise is handed the marks as that call left them, and S stays by
- * this promise, no byte of them changes.
+ * It makes no difference in which buffers S was chosen, nor whether plates_choose gave it or a call of plates_revise before, of which
+ * the outline that is handed over now is the revised one. Where S stays by this promise, and the marks that are handed over are as
+ * that call left them, no byte of them changes.
  *
  * The old best is what plates_choose tells of the given outline; its diversity is also that of the answer less moved[0]. A set of
  * plates costs the same before and after, so the given outline has a choice for a page count exactly if the revised one has.

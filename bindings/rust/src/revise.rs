@@ -17,9 +17,9 @@ use crate::sys;
 /// rooted if one of its taxa is at or below the record, unrooted if one is there and another one is
 /// elsewhere. Where the set that [`Outline::choose`] gives spans the revised branch and the length
 /// rises, the best rises by exactly the difference; where it does not and the length falls, the best
-/// stays. Either way the set stays chosen, with the same cost and spare. A length that stays as it
-/// is may be taken for either. Where the set spans the branch and the length falls, or does not and
-/// it rises, another set may take its place.
+/// stays. Either way the set stays chosen, with the same cost and spare. Both hold of a length that
+/// stays as it is. Where the set spans the branch and the length falls, or does not and it rises,
+/// another set may take its place.
 ///
 /// ```
 /// use plates::{Outline, Refusal, Way};
