@@ -250,21 +250,22 @@
  * - The best diversity moves by no more than the length: moved[0] is never larger in size than moved[1].
  * - It never moves the other way: moved[0] is never above 0 where the length falls, nor below 0 where it rises. It may be 0
  *   though moved[1] is not.
- * - Exactly as much: let S be the set that plates_choose gives of the given outline, for the same count and way. Where S spans the
- *   revised branch and the length rises, the best rises by exactly the difference: moved[0] equals moved[1]. Where S does not span
- *   it and the length falls, moved[0] is 0. Either way S stays chosen: the N marks are the same, and so are cost, number of taxa
- *   and spare. Both hold of a length that stays as it is.
+ * - Exactly as much, where neither call is refused: let S be the set that plates_choose gives of the given outline, for the same
+ *   count and way. Where S spans the revised branch and the length rises, the best rises by exactly the difference: moved[0] equals
+ *   moved[1]. Where S does not span it and the length falls, moved[0] is 0. In both cases S stays chosen: the first N marks are the
+ *   same, and so are cost, number of taxa and spare; the diversity is the old one and moved[0]. If the length stays as it is, all of
+ *   this holds too. It is said of the page count itself: in the curve, for a smaller count, the best set may be another one.
  * - A revised outline is one that plates_check accepts, as the given one is. The answer, marks, curve and work are what a call of
  *   plates_choose on it with the same buffers leaves.
  *
- * A set spans a branch if its diversity counts that length: rooted if a chosen taxon is at or below the record, unrooted if one is
- * there and another one is elsewhere. So no plate changes where a branch that is in the book turns out longer, nor where one that
- * is not turns out shorter. Of the other two nothing of the kind is promised, as the table shows: plate 11 is in the book and leaves
- * it at length 1, plate 12 is not and comes in at length 6.
+ * A set spans a branch if its diversity counts the branch's length: rooted if one of its taxa is at or below the record, unrooted if
+ * one is there and another one is elsewhere. So no plate changes where a branch of the best set's tree turns out longer, nor where
+ * one that is not in it turns out shorter. In the other two cases nothing of the kind is promised, as the table shows: plate 11 is
+ * in the best set and leaves it at length 1, plate 12 is not and comes in at length 6.
  *
- * It makes no difference in which buffers S was chosen, nor whether plates_choose gave it or a call of plates_revise before, of which
- * the outline that is handed over now is the revised one. Where S stays by this promise, and the marks that are handed over are as
- * that call left them, no byte of them changes.
+ * It makes no difference in which buffers S was chosen. S may also come from a call of plates_revise for the same count and way, if
+ * the outline that is handed over now is the revised one of that call. Where S stays by this promise, and the marks are handed over
+ * as the call that chose S left them, no byte of them changes.
  *
  * The old best is what plates_choose tells of the given outline; its diversity is also that of the answer less moved[0]. A set of
  * plates costs the same before and after, so the given outline has a choice for a page count exactly if the revised one has.
@@ -722,7 +723,8 @@ uint32_t plates_quick(const uint8_t *outline, size_t outline_len, uint32_t count
  *     marks, curve, work, answer   as plates_choose leaves them, with the same count, way and buffers
  *     moved                        the best diversity less that of the outline as it is, and the new length less the old one
  *
- * The first of moved is never larger in size than the second, and never of the other sign. Elements beyond those that
+ * The first of moved is never larger in size than the second, and never of the other sign. What plates_choose gives of the outline
+ * as it is tells when it is exactly the second, and when it is 0: see WHEN ONE LENGTH IS REVISED. Elements beyond those that
  * plates_choose writes stay as they were, so a buffer may be longer than needed. On a refusal marks, curve and work all stay as
  * they were.
  */

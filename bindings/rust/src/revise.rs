@@ -13,13 +13,14 @@ use crate::sys;
 /// [`length_moved`](Revision::length_moved), and never of the other sign. It may be 0 though the
 /// length is another.
 ///
-/// What was chosen before tells more. A set spans a branch if its diversity counts that length:
-/// rooted if one of its taxa is at or below the record, unrooted if one is there and another one is
-/// elsewhere. Where the set that [`Outline::choose`] gives spans the revised branch and the length
-/// rises, the best rises by exactly the difference; where it does not and the length falls, the best
-/// stays. Either way the set stays chosen, with the same cost and spare. Both hold of a length that
-/// stays as it is. Where the set spans the branch and the length falls, or does not and it rises,
-/// another set may take its place.
+/// What is chosen before tells more. A set spans a branch if its diversity counts the branch's
+/// length: rooted if one of its taxa is at or below the record, unrooted if one is there and another
+/// one is elsewhere. Where the set that [`Outline::choose`] gives of the outline as it is, for the
+/// same count and way, spans the revised branch and the length rises, the best rises by exactly the
+/// difference; where it does not and the length falls, the best stays. In both cases the set stays
+/// chosen, with the same cost and spare. If the length stays as it is, all of this holds too. Where
+/// the set spans the branch and the length falls, or does not and it rises, another set may take its
+/// place.
 ///
 /// ```
 /// use plates::{Outline, Refusal, Way};

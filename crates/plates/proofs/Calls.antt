@@ -132,7 +132,7 @@ module _ {c : revise.Call} {n : ℕ} {answer : List ℕ} {moved : List ℤ} {mar
 
     -- beside any such call at the same count and by the same way, say the one before, in the same buffers: where the set that it marked spans the
     -- branch and the length rises, the best rises by exactly as much; where it does not and the length falls, the best stays; and that set
-    -- stays marked. A call of `plates_revise` of which this outline is the revised one is such a call too, by `revised_chosen`
+    -- stays marked. A call of `plates_revise` at that count and way, whose revised outline this is, counts as such a call, by `revised_chosen`
     pub revised_exactly : {d : choose.Call} → choices.CallAt c.outline c.count c.way d → {k : ℕ} {answer' before curve' work' : List ℕ}
         → Chosen d k answer' before curve' work' → k ≡ 0
         → revisions.ExactlyAsMuch c (revised_in moved answer) marks (chosen_in answer') before

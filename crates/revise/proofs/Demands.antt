@@ -116,7 +116,7 @@ module _ (c : Call) {r : Reply Figures} {marks curve work : List ℕ} (x : Answe
     unfolding choose.reply
     old_chosen y = ap (λ (a : Reply Choice). a.number) y.told_reply ∙ rw (old_selected c passes)
 
-    -- that is a call on the revised outline, at the same count and by the same way
+    -- `new_choice` is a call on the revised outline, at the same count and by the same way
     pub new_at : CallAt (new_outline c) c.count c.way (new_choice c)
     new_at = record { outline_is = refl; count_is = refl; way_is = refl }
 

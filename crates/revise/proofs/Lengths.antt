@@ -1,6 +1,6 @@
--- Two outlines that differ only in the length of record r: a set's diversity differs by as much if it counts that length, else not; so the best
--- diversity moves with the length and never by more; where the best set counts that length and it rises, by exactly as much; where it does not
--- count it and it falls, not at all; and then that set stays the best.
+-- Two outlines that differ only in the length of record r: a set's diversity differs by as much if it spans that branch, else not; so the best
+-- diversity moves with the length and never by more. Where the best set spans the branch and the length rises, it moves by exactly as much; where
+-- it does not and the length falls, not at all; and in both cases that set stays the best.
 use Rattle.std.specs.Prelude.{if◌then◌else◌}
 use Prim.Native.Nat.{ℕ, ◌+◌, ◌*◌, ◌-◌, ◌≤◌}
 use mathlib.Core.Path.{◌≡◌, refl, sym, ap, ap₂, fun_ext, ◌∙◌}
@@ -48,7 +48,8 @@ one_length_back d = record {
 }
 
 module _ (o p : List ℕ) (r : ℕ) (d : OneLength o p r) where
-  same_spans : (way : ℕ) (s : List ℕ) (q : ℕ) → spans p way s q ≡ spans o way s q
+  -- which branches a set spans does not depend on lengths
+  pub same_spans : (way : ℕ) (s : List ℕ) (q : ℕ) → spans p way s q ≡ spans o way s q
   unfolding spans
   same_spans way s q = rw (alike_within d.alike s q, alike_elsewhere d.alike s q)
 
@@ -90,11 +91,11 @@ module _ (o p : List ℕ) (r : ℕ) (d : OneLength o p r) where
         ap₂ total (fun_ext (λ q. ap (λ b. if b then branch p q else 0) (same_spans way s q))) (alike_records d.alike) in
         omega (arith, diversity_spans o way s, diversity_spans p way s)
 
-    -- by exactly the difference if it counts that length, else not
-    spanned_moves : spans o way s r ≡ true → diversity p way s + branch o r ≡ diversity o way s + branch p r
+    -- by exactly the difference if it spans that branch, else not
+    pub spanned_moves : spans o way s r ≡ true → diversity p way s + branch o r ≡ diversity o way s + branch p r
     spanned_moves e = rw e at diversity_moves
 
-    unspanned_stays : spans o way s r ≡ false → diversity p way s ≡ diversity o way s
+    pub unspanned_stays : spans o way s r ≡ false → diversity p way s ≡ diversity o way s
     unspanned_stays e = let h : diversity p way s + 0 ≡ diversity o way s + 0 = rw e at diversity_moves in omega arith
 
     -- never against the length, and never by more
@@ -133,8 +134,8 @@ module _ (o p : List ℕ) (r : ℕ) (d : OneLength o p r) (b : ℕ) (fit : cost 
         (omega arith, omega arith);
   }
 
-  -- as the length rises, no set gains more than one that counts it; as it falls, none gains more than one that does not. So the best set stays
-  -- where it is such a one
+  -- as the length rises, no set gains more than one that spans the branch; as it falls, none gains more than one that does not. So the best set
+  -- stays where it is such a one
   module _ (way : ℕ) where
     abbrev old : List ℕ
     old = optimum o way b

@@ -1,5 +1,5 @@
 -- An outline that keeps the rules, with another length of one record, keeps them, and its best diversity moves with the length: by exactly as
--- much, or not at all, where the old best set spans the branch and it rises, or does not and it falls.
+-- much, or not at all, where the old best set spans the branch and its length rises, or does not and the length falls.
 use Prim.Native.Nat.{ℕ, ◌+◌, ◌≤◌}
 use mathlib.Core.Path.{◌≡◌, refl, sym, subst, ◌∙◌}
 use mathlib.Core.Bool.{Bool, true, false}

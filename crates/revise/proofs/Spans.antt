@@ -1,4 +1,4 @@
--- A set's diversity is the sum of the lengths of the records whose branches it spans: that is what `spans` means.
+-- A set's diversity is the sum of the lengths of the records whose branches it spans.
 use Rattle.std.specs.Prelude.{if◌then◌else◌}
 use Prim.Native.Nat.{ℕ}
 use mathlib.Core.Path.{◌≡◌, refl}

@@ -120,7 +120,7 @@ first_cases =
     ∷ chosen_first 3 0 0 true (negsuc 1) (negsuc 3) twelve
     -- not promised: plate 12 is not in the book, and its length rises to 9; it takes the place of plate 11
     ∷ chosen_first 4 9 0 false (pos 5) (pos 7) twelve
-    -- a length that stays as it is, of either
+    -- a length that stays as it is, spanned and not
     ∷ chosen_first 3 4 0 true (pos 0) (pos 0) eleven
     ∷ chosen_first 4 2 0 false (pos 0) (pos 0) eleven
     -- unrooted alike

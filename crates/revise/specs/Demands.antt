@@ -78,7 +78,7 @@ pub record StaysExactly (c : Call) (r : Reply Figures) (marks : List ℕ) (old :
 
 -- what is told and marked, where a choice on the given outline, at the same count and by the same way, is told `old` and leaves the marks
 -- `before`: where that spans the revised branch and the length rises, and where it does not span it and the length falls. A length that stays
--- as it is is among both: where it is spanned it counts as rising, else as falling
+-- as it is counts as rising where the branch is spanned, else as falling
 pub record ExactlyAsMuch (c : Call) (r : Reply Figures) (marks : List ℕ) (old : Reply Choice) (before : List ℕ) : Type 0 where
   pub spanned_rises : old_spans c before ≡ true → branch c.outline c.changed ≤ c.to → RisesExactly c r marks old before
   pub unspanned_falls : old_spans c before ≡ false → c.to ≤ branch c.outline c.changed → StaysExactly c r marks old before
