@@ -33,11 +33,11 @@ module _ (c : Call) {r : Reply Figures} {marks curve work : List ℕ} (x : Answe
   abbrev best : List ℕ
   best = optimum c.outline c.way c.count
 
-  may : Revisable c
-  may = revisable c x z
+  can_revise : Revisable c
+  can_revise = revisable c x z
 
   fit : cost c.outline (locked_set c.outline) ≤ c.count
-  fit = may.solvable.searchable.locked_fit
+  fit = can_revise.solvable.searchable.locked_fit
 
   before_is : marked_set (old_choice c) before ≡ best
   before_is = best_marked at y f
@@ -58,24 +58,23 @@ module _ (c : Call) {r : Reply Figures} {marks curve work : List ℕ} (x : Answe
   -- again
   module _ (same : optimum (new_outline c) c.way c.count ≡ best) where
     alike : Alike c.outline (new_outline c)
-    alike = revised_alike c.outline c.changed c.to may.is_record
+    alike = revised_alike c.outline c.changed c.to can_revise.is_record
 
     now_is : marked_set (new_choice c) marks ≡ best
     now_is = best_marked (new_at c x z) (chosen c x z) z ∙ same
 
+    -- a measure of sets that is the same on both outlines is told as before, of the set that is marked
+    told_stays : (measure : List ℕ → List ℕ → ℕ) → measure (new_outline c) best ≡ measure c.outline best → {n m : ℕ}
+        → n ≡ measure (new_outline c) (marked_set (new_choice c) marks) → m ≡ measure d.outline (marked_set d before) → n ≡ m
+    told_stays measure e p q = p ∙ ap (measure (new_outline c)) now_is ∙ e ∙ sym (q ∙ rw (at.outline_is, before_is) refl)
+
     cost_stays : r.figures.choice.cost ≡ old.figures.cost
     cost_stays =
-        (chosen_true c x z).cost_true
-        ∙ ap (cost (new_outline c)) now_is
-        ∙ alike_cost alike (revised_price c.outline c.changed c.to may.is_record) best
-        ∙ sym (before_true.cost_true ∙ rw (at.outline_is, before_is) refl)
+        told_stays cost (alike_cost alike (revised_price c.outline c.changed c.to can_revise.is_record) best)
+        (chosen_true c x z).cost_true before_true.cost_true
 
     taxa_stay : r.figures.choice.taxa ≡ old.figures.taxa
-    taxa_stay =
-        (chosen_true c x z).taxa_true
-        ∙ ap (chosen_taxa (new_outline c)) now_is
-        ∙ alike_taxa alike best
-        ∙ sym (before_true.taxa_true ∙ rw (at.outline_is, before_is) refl)
+    taxa_stay = told_stays chosen_taxa (alike_taxa alike best) (chosen_true c x z).taxa_true before_true.taxa_true
 
     spare_stays : r.figures.choice.spare ≡ old.figures.spare
     spare_stays = spare_is_left (new_choice c) (chosen c x z) z ∙ rw (cost_stays, ← at.count_is) (sym (spare_is_left d y f))
@@ -100,14 +99,14 @@ module _ (c : Call) {r : Reply Figures} {marks curve work : List ℕ} (x : Answe
   unfolding figures
   exactly_as_much = record {
     spanned_rises = λ s h.
-        let (same, best) = rises_exactly c.outline c.changed c.to may.is_record may.length_most c.way c.count fit (spans_best s) h in
+        let (same, best) = rises_exactly c.outline c.changed c.to can_revise.is_record can_revise.length_most c.way c.count fit (spans_best s) h in
         record {
           moved_as_length = rw (told_is c x z) (moved_alike (old_best c) (new_best c) _ _ h best);
           diversity_rises = rw (new_told, old_told) best;
           set_stays = set_stays same;
         };
     unspanned_falls = λ s h.
-        let (same, best) = stays_exactly c.outline c.changed c.to may.is_record may.length_most c.way c.count fit (spans_best s) h in
+        let (same, best) = stays_exactly c.outline c.changed c.to can_revise.is_record can_revise.length_most c.way c.count fit (spans_best s) h in
         record {
           moved_nowhere = rw (told_is c x z, best) (moved_nowhere (old_best c));
           diversity_stays = rw (new_told, old_told) best;
