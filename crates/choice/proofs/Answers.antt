@@ -6,7 +6,7 @@ use mathlib.Core.Logic.{◌⊎◌}
 use mathlib.Core.Bool.{true, false}
 use mathlib.Core.List.{List, ◌++◌}
 use native.Mathlib.Omega.{arith}
-use lib.ListN.{length, take, drop, length-replicate}
+use lib.ListN.{length, take, drop, replicate, length-replicate}
 use lib.Seq.{length-take-le}
 use borrow.Author.Tests.{eqb-true}
 use Rattle.lists.specs.Lists.{over}
@@ -14,7 +14,7 @@ use Rattle.refusals.specs.Refusals.{Ruling, refusal}
 use Rattle.refusals.specs.declared.refusal.Refusal.{Refusal}
 use Rattle.refusals.proofs.Refusals.{both_pass, refused_not_zero}
 use Rattle.outline.specs.Answer.{checked}
-use Rattle.choice.specs.Answer.{Call, Figures, Answered, told, work_taken, judged, is_selected, figures, reply}
+use Rattle.choice.specs.Answer.{Call, call, Figures, Answered, told, work_taken, judged, is_selected, figures, reply}
 use Rattle.choice.specs.Answer.{curve_of, marks_after, curve_after, work_after}
 use Rattle.choice.specs.Inner.{first_rows, last_rows, Solvable, Solved}
 use Rattle.choice.proofs.Rows.{rows_judged, FirstPassed, first_passed, last_passed}
@@ -36,6 +36,27 @@ module _ (c : Call) where
 
   pub selected_solvable : is_selected c ≡ true → Solvable c
   selected_solvable e = last_passed c (first_part e).formed (first_part e).low (both_parts e).1
+
+  -- the same call with other numbers in as much work can be solved too, and what solves that solves this
+  module _ {o work : List ℕ} (same : o ≡ c.outline) (as_long : length work ≡ length c.work) where
+    pub solvable_again : Solvable c → Solvable (call o c.count c.way c.marks c.curve work)
+    solvable_again s =
+        let h = s.searchable in
+        rw same (record {
+          searchable = record { formed = h.formed; low = h.low; locked_fit = h.locked_fit; work_long = rw as_long h.work_long };
+          marks_long = s.marks_long;
+          curve_long = s.curve_long;
+        })
+
+    pub solved_again : {f : Figures} {marks curve cleared : List ℕ} → Solved (call o c.count c.way c.marks c.curve work) f marks curve cleared
+        → Solved c f marks curve cleared
+    unfolding figures curve_of
+    solved_again s = record {
+      told_figures = s.told_figures ∙ rw same;
+      marks_written = s.marks_written ∙ rw same;
+      curve_written = s.curve_written ∙ rw same;
+      work_cleared = s.work_cleared ∙ ap (λ n. replicate n 0) as_long;
+    }
 
   -- the call with the first n numbers of work
   abbrev pub with_work : ℕ → Call

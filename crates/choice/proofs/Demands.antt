@@ -34,7 +34,8 @@ use Rattle.laws.proofs.Headings.{cost_opened}
 use Rattle.laws.proofs.Free.{free_chosen}
 use Rattle.choice.specs.Answer.{Call, Figures, no_figures, Answered, numbers_of, told, most_count, too_short, judged, is_selected}
 use Rattle.choice.specs.Answer.{best_set, figures, reply, curve_of, diversity_at, cost_at, marks_after, curve_after, work_after}
-use Rattle.choice.specs.Demands.{choose_table, SelectedOrRefused, marked_set, TrueOfMarks, Shown, some_set, no_set, TrueColumn, FoundBySearch, CallAt}
+use Rattle.choice.specs.Inner.{Solvable}
+use Rattle.choice.specs.Demands.{TooShort, choose_table, SelectedOrRefused, marked_set, TrueOfMarks, Shown, some_set, no_set, TrueColumn, FoundBySearch, CallAt}
 use Rattle.choice.proofs.Answers.{way_known, selected_solvable}
 use Rattle.choice.proofs.Solving.{curve_diversity, curve_cost}
 
@@ -47,16 +48,21 @@ told_determined = answer_determined no_figures
 pub none_decided : (o : List ℕ) (way b : ℕ) → Decides (NoneFits o b) (none_fits o way b)
 none_decided o way b = rw (none_exactly o way b) (Iff.trans (decides_less b (cost o (locked_set o))) (none_fits_lem o b))
 
+-- a buffer is too short or none is
+pub short_decided : (c : Call) → Decides (TooShort c) (too_short c)
+unfolding too_short
+short_decided c = decides_either (decides_less _ _) (decides_either (decides_less _ _) (decides_less _ _))
+
 module _ (c : Call) where
   -- what a call is judged is what its table gives
   judged_gives : Gives (choose_table c) (judged c)
-  unfolding judged too_short
+  unfolding judged
   judged_gives =
       gives_then (gives_way c.way)
       (gives_then (sizes_give c.outline)
       (gives_then (gives_whole 3 (decides_less most_count c.count))
       (gives_then (records_give c.outline)
-      (gives_then (gives_whole 8 (decides_either (decides_less _ _) (decides_either (decides_less _ _) (decides_less _ _))))
+      (gives_then (gives_whole 8 (short_decided c))
       (gives_whole 11 (none_decided c.outline c.way c.count))))))
 
 module _ (c : Call) {r : Reply Figures} {marks curve work : List ℕ} (x : Answered c r marks curve work) where
@@ -79,9 +85,13 @@ module _ (c : Call) {r : Reply Figures} {marks curve work : List ℕ} (x : Answe
     unfolding reply
     told_is = x.told_reply ∙ rw selected_row
 
+    -- what the call keeps
+    pub told_solvable : Solvable c
+    told_solvable = selected_solvable c selected_row
+
     -- the locked taxa fit by themselves
     fit : cost c.outline (locked_set c.outline) ≤ c.count
-    fit = (selected_solvable c selected_row).searchable.locked_fit
+    fit = told_solvable.searchable.locked_fit
 
     marked_is : marked_set c marks ≡ best_set c
     unfolding marks_after over
@@ -103,7 +113,7 @@ module _ (c : Call) {r : Reply Figures} {marks curve work : List ℕ} (x : Answe
 
     -- and in the paper's words: the length of the smallest subtree that connects the marked taxa, rooted with the root
     pub demand_2_subtree : SubtreeLength c.outline (Ends c.outline c.way (marked_set c marks)) r.figures.diversity
-    demand_2_subtree = rw demand_2.diversity_true (diversity_subtree _ (selected_solvable c selected_row).searchable.formed.linked _ _)
+    demand_2_subtree = rw demand_2.diversity_true (diversity_subtree _ told_solvable.searchable.formed.linked _ _)
 
     -- and in the request's words: the marked taxa's prices, and the price of each group that has one of them below it
     pub demand_2_headings : r.figures.cost ≡ prices_chosen c.outline (marked_set c marks) + headings_opened c.outline (marked_set c marks)

@@ -21,7 +21,7 @@ pub fn work_taken(outline: &[u8], count: u32) -> usize
 }
 
 // A way that is neither 0 nor 1.
-fn is_unknown(way: u32) -> bool
+pub fn is_unknown(way: u32) -> bool
     ensures { result ≡ unknown way }
 {
     way != 0 && way != 1

@@ -1,17 +1,17 @@
 -- Outlines that are alike: as long as each other, with the same links and plate fields. Their sets of taxa are the same, and so is what a set
--- has below each record and its number of taxa; with the same prices its cost is the same.
+-- has below each record and its number of taxa; with the same prices its cost is the same, and with the same lengths its diversity.
 use Rattle.std.specs.Prelude.{if◌then◌else◌, ◌⊎◌}
 use Prim.Native.Nat.{ℕ, zero, suc, ◌-◌, ◌/◌, ◌%◌}
 use mathlib.Core.Path.{◌≡◌, refl, sym, ap, ap₂, subst, fun_ext, ◌∙◌}
-use mathlib.Core.Bool.{true, ◌&&◌, not}
+use mathlib.Core.Bool.{Bool, true, ◌&&◌, not}
 use mathlib.Core.List.{List, ◌∷◌, ◌++◌}
 use native.Mathlib.Omega.{arith}
 use lib.ListN.{length, get_or}
 use lib.Dec.{eqb}
 use Rattle.lists.specs.Lists.{one, from, anywhere, total}
-use Rattle.outline.specs.Outline.{size, records, next, first, price, plate_field, is_taxon, locked, lock_bit}
+use Rattle.outline.specs.Outline.{size, records, next, first, branch, price, plate_field, is_taxon, locked, lock_bit}
 use Rattle.diversity.specs.Behind.{IsSet}
-use Rattle.diversity.specs.Diversity.{chain, clade, chosen, within, elsewhere, cost, holds_locked, chosen_taxa}
+use Rattle.diversity.specs.Diversity.{chain, clade, chosen, within, elsewhere, rooted, unrooted, diversity, cost, holds_locked, chosen_taxa}
 use Rattle.laws.proofs.Accepted.{SameLinksAndPlates}
 
 pub record Alike (o p : List ℕ) : Type 0 where
@@ -86,6 +86,20 @@ module _ {o p : List ℕ} (alike : Alike o p) where
   pub alike_cost : ((r : ℕ) → price p r ≡ price o r) → (s : List ℕ) → cost p s ≡ cost o s
   unfolding cost
   alike_cost prices s = ap₂ total (fun_ext (λ r. ap₂ (λ b n. if b then n else 0) (alike_within s r) (prices r))) alike_records
+
+  pub alike_diversity : ((r : ℕ) → branch p r ≡ branch o r) → (way : ℕ) (s : List ℕ) → diversity p way s ≡ diversity o way s
+  unfolding diversity rooted unrooted
+  alike_diversity lengths way s = ap₂ (λ a b. if eqb way 0 then a else b) root between
+    where
+      counted : {a b : ℕ → Bool} → ((r : ℕ) → a r ≡ b r)
+          → total (λ r. if a r then branch p r else 0) (records p) ≡ total (λ r. if b r then branch o r else 0) (records o)
+      counted same = ap₂ total (fun_ext (λ r. ap₂ (λ b n. if b then n else 0) (same r) (lengths r))) alike_records
+
+      root : rooted p s ≡ rooted o s
+      root = counted (alike_within s)
+
+      between : unrooted p s ≡ unrooted o s
+      between = counted (λ r. ap₂ ◌&&◌ (alike_within s r) (alike_elsewhere s r))
 
   pub alike_taxa : (s : List ℕ) → chosen_taxa p s ≡ chosen_taxa o s
   unfolding chosen_taxa

@@ -27,7 +27,7 @@ one_down (x ∷ a) [] i h k = absurd (omega arith)
 one_down (x ∷ a) (y ∷ b) zero h k = refl
 one_down (x ∷ a) (y ∷ b) (suc i) h k = ap (λ (l : List ℕ). x ∷ l) (one_down a b i (omega arith) (omega arith))
 
-over_long : (text buffer : List ℕ) → length text ≤ length buffer → length (over text buffer) ≡ length buffer
+pub over_long : (text buffer : List ℕ) → length text ≤ length buffer → length (over text buffer) ≡ length buffer
 unfolding over
 over_long text buffer h = simp (length-append, length-drop) (omega arith)
 

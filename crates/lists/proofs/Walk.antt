@@ -2,13 +2,13 @@
 -- lowest number at which a test holds; and what `lowest` then tells.
 use Rattle.std.proofs.lemmas.Bool.{or_parts}
 use Prim.Native.Nat.{ℕ, zero, suc, ◌+◌, ◌*◌, ◌-◌, ◌≤◌, ◌<◌}
-use mathlib.Core.Path.{◌≡◌, refl, sym, ap, ◌∙◌}
-use mathlib.Core.Bool.{Bool, true, false, not, false≢true}
+use mathlib.Core.Path.{◌≡◌, refl, sym, ap, ap₂, ◌∙◌}
+use mathlib.Core.Bool.{Bool, true, false, ◌||◌, not, false≢true}
 use mathlib.Core.List.{List, [], ◌∷◌, ◌++◌, foldl}
 use native.Mathlib.Nat.{mul-add}
 use native.Mathlib.Omega.{arith}
 use lib.Dec.{eqb}
-use borrow.Author.Tests.{eq-eqb, ne_eqb, eqb-true, eqb-false, not-false}
+use borrow.Author.Tests.{ne_eqb, eqb-true, eqb-false}
 use Rattle.std.specs.Prelude.{if◌then◌else◌, Some, None, is_some, unwrap_or}
 use Rattle.lists.specs.Lists.{from, anywhere, total, lowest, nonzero}
 
@@ -203,11 +203,30 @@ nonzero_none n e = go (eqb n 0) refl e
     go true z h = eqb-true n 0 z
     go false z h = absurd cc
 
+-- a test that holds at none of the n numbers from k on, and the converse
+pub nowhere_from : (p : ℕ → Bool) (k n : ℕ) → anywhere p (from k n) ≡ false → (r : ℕ) → k ≤ r → r < k + n → p r ≡ false
+unfolding anywhere from
+nowhere_from p k zero e r l u = absurd (omega arith)
+nowhere_from p k (suc n) e r l u = go (eqb r k) refl (λ m. nowhere_from p (k + 1) n parts.1 r m (omega arith))
+  where
+    parts : (p k ≡ false) × (anywhere p (from (k + 1) n) ≡ false)
+    parts = or_parts (p k) _ e
+
+    go : (t : Bool) → eqb r k ≡ t → (k + 1 ≤ r → p r ≡ false) → p r ≡ false
+    go true q later = rw (eqb-true r k q) parts.0
+    go false q later = let d = eqb-false r k q in later (omega arith)
+
+pub from_nowhere : (p : ℕ → Bool) (k n : ℕ) → ((r : ℕ) → k ≤ r → r < k + n → p r ≡ false) → anywhere p (from k n) ≡ false
+unfolding anywhere from
+from_nowhere p k zero f = refl
+from_nowhere p k (suc n) f =
+    rw (f k (omega arith) (omega arith)) (from_nowhere p (k + 1) n (λ r l u. f r (omega arith) (omega arith)))
+
 pub anywhere_none : (p : ℕ → Bool) (n : ℕ) → anywhere p (from 1 n) ≡ false → (r : ℕ) → 1 ≤ r → r ≤ n → p r ≡ false
-anywhere_none p n e = lowest_none p n (eqb-true _ _ (not-false _ (anywhere_lowest p n ∙ e)))
+anywhere_none p n e r l u = nowhere_from p 1 n e r l (omega arith)
 
 pub none_anywhere : (p : ℕ → Bool) (n : ℕ) → ((r : ℕ) → 1 ≤ r → r ≤ n → p r ≡ false) → anywhere p (from 1 n) ≡ false
-none_anywhere p n f = sym (anywhere_lowest p n) ∙ ap not (eq-eqb _ _ (none_lowest p n f))
+none_anywhere p n f = from_nowhere p 1 n (λ r l u. f r l (omega arith))
 
 -- the numbers from k on, in two parts
 pub from_both : (k a b : ℕ) → from k (a + b) ≡ from k a ++ from (k + a) b
@@ -223,8 +242,16 @@ pub from_last : (k n : ℕ) → from k (suc n) ≡ from k n ++ ((k + n) ∷ [])
 unfolding from
 from_last k n = let e : suc n ≡ n + 1 = omega arith in ap (from k) e ∙ from_both k n 1
 
--- a test that holds in neither of two parts holds nowhere
-pub nowhere_both : (p : ℕ → Bool) (xs ys : List ℕ) → anywhere p xs ≡ false → anywhere p ys ≡ false → anywhere p (xs ++ ys) ≡ false
+-- a test that holds somewhere in two parts holds in one of them; where it holds in neither, it holds nowhere
+pub anywhere_both : (p : ℕ → Bool) (xs ys : List ℕ) → anywhere p (xs ++ ys) ≡ (anywhere p xs || anywhere p ys)
 unfolding anywhere
-nowhere_both p [] ys e f = f
-nowhere_both p (x ∷ xs) ys e f = let parts = or_parts (p x) (anywhere p xs) e in rw parts.0 (nowhere_both p xs ys parts.1 f)
+anywhere_both p [] ys = refl
+anywhere_both p (x ∷ xs) ys = go (p x) (anywhere_both p xs ys)
+  where
+    go : (b : Bool) → anywhere p (xs ++ ys) ≡ (anywhere p xs || anywhere p ys)
+        → (b || anywhere p (xs ++ ys)) ≡ ((b || anywhere p xs) || anywhere p ys)
+    go true ih = refl
+    go false ih = ih
+
+pub nowhere_both : (p : ℕ → Bool) (xs ys : List ℕ) → anywhere p xs ≡ false → anywhere p ys ≡ false → anywhere p (xs ++ ys) ≡ false
+nowhere_both p xs ys e f = anywhere_both p xs ys ∙ ap₂ ◌||◌ e f

@@ -30,6 +30,7 @@ refusal_numbered (Refusal.Unwritable r) = omega arith
 refusal_numbered (Refusal.BadMarks r) = omega arith
 refusal_numbered Refusal.TooManyPicks = omega arith
 refusal_numbered Refusal.BadRevision = omega arith
+refusal_numbered (Refusal.BadRange r) = omega arith
 
 pub refusal_not_zero : (e : Refusal) → eqb (refusal e).number 0 ≡ false
 refusal_not_zero e = ne_eqb (refusal e).number 0 (λ z. omega (arith, refusal_numbered e))
@@ -63,7 +64,8 @@ refusal_at t =
     else (if eqb t.number 12 then Refusal.LockedTooDear
     else (if eqb t.number 13 then Refusal.Unwritable t.place
     else (if eqb t.number 14 then Refusal.BadMarks t.place
-    else (if eqb t.number 15 then Refusal.TooManyPicks else Refusal.BadRevision))))))))))))))
+    else (if eqb t.number 15 then Refusal.TooManyPicks
+    else (if eqb t.number 16 then Refusal.BadRevision else Refusal.BadRange t.place)))))))))))))))
 
 refusal_at_lem : (e : Refusal) → refusal_at (refusal e) ≡ e
 unfolding refusal_at
@@ -83,6 +85,7 @@ refusal_at_lem (Refusal.Unwritable r) = refl
 refusal_at_lem (Refusal.BadMarks r) = refl
 refusal_at_lem Refusal.TooManyPicks = refl
 refusal_at_lem Refusal.BadRevision = refl
+refusal_at_lem (Refusal.BadRange r) = refl
 
 -- the number and the place determine the refusal
 pub refusal_determined : (d e : Refusal) → refusal d ≡ refusal e → d ≡ e

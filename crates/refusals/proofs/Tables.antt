@@ -1,7 +1,7 @@
 -- What a table of refusals gives, for any list of rows: the first row that holds, under its condition only, and no other.
 use Rattle.std.specs.Prelude.{if◌then◌else◌}
 use Prim.Native.Nat.{ℕ, suc}
-use mathlib.Core.Path.{◌≡◌, refl, sym, ◌∙◌}
+use mathlib.Core.Path.{◌≡◌, refl, sym, ap, ◌∙◌}
 use mathlib.Core.Logic.{◌≢◌, ◌⊎◌, inl, inr}
 use mathlib.Core.Bool.{Bool, true, false, ◌&&◌, not, false≢true}
 use mathlib.Core.List.{List, [], ◌∷◌, ◌++◌}
@@ -91,3 +91,8 @@ two_ways way = go (eqb way 0) refl (eqb way 1) refl
     go true p b q h = inl (eqb-true _ _ p)
     go false p true q h = inr (eqb-true _ _ q)
     go false p false q h = absurd (false≢true (sym h))
+
+-- and the converse
+pub known_way : {way : ℕ} → (way ≡ 0) ⊎ (way ≡ 1) → (not (eqb way 0) && not (eqb way 1)) ≡ false
+known_way (inl e) = ap (λ way. not (eqb way 0) && not (eqb way 1)) e
+known_way (inr e) = ap (λ way. not (eqb way 0) && not (eqb way 1)) e

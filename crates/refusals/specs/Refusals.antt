@@ -33,6 +33,7 @@ refusal (Refusal.Unwritable r) = ruling 13 r
 refusal (Refusal.BadMarks r) = ruling 14 r
 refusal Refusal.TooManyPicks = ruling 15 0
 refusal Refusal.BadRevision = ruling 16 0
+refusal (Refusal.BadRange r) = ruling 17 r
 
 -- and of what a judge answers
 abbrev pub told : Result Unit Refusal → Ruling

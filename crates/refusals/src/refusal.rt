@@ -2,7 +2,8 @@
 ghost use Rattle.std.specs.Prelude.{◌≡◌};
 ghost use Rattle.refusals.specs.Refusals.{refusal};
 
-// The rows of the table. A number is the place: the lowest record at fault, and 0 where there are fewer marks than records.
+// The rows of the table. A number is the place: the lowest record at fault, and 0 where there are fewer marks than records, or one outline has
+// more records than the other.
 #[derive(Clone, Copy, Debug, PartialEq, Eq)]
 pub enum Refusal {
     UnknownWay,
@@ -21,6 +22,7 @@ pub enum Refusal {
     BadMarks(usize),
     TooManyPicks,
     BadRevision,
+    BadRange(usize),
 }
 
 impl Refusal {
@@ -45,6 +47,7 @@ impl Refusal {
             Refusal::BadMarks(_) => 14,
             Refusal::TooManyPicks => 15,
             Refusal::BadRevision => 16,
+            Refusal::BadRange(_) => 17,
         }
     }
 
@@ -57,7 +60,8 @@ impl Refusal {
             | Refusal::BadLink(r)
             | Refusal::DuplicatePlate(r)
             | Refusal::Unwritable(r)
-            | Refusal::BadMarks(r) => r,
+            | Refusal::BadMarks(r)
+            | Refusal::BadRange(r) => r,
             _ => 0,
         }
     }

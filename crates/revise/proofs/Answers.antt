@@ -6,11 +6,12 @@ use mathlib.Core.Path.{◌≡◌, refl, sym, ap, ap₂, ◌∙◌}
 use mathlib.Core.Bool.{false}
 use mathlib.Core.List.{List, ◌++◌}
 use native.Mathlib.Omega.{arith}
-use lib.ListN.{length, take, drop, replicate, length-replicate}
-use borrow.Author.Tests.{ltb-false, eqb-false}
+use lib.ListN.{length, take, drop}
+use borrow.Author.Tests.{ltb-false, eqb-false, eq-eqb}
 use Rattle.lists.specs.Lists.{over}
 use Rattle.lists.proofs.Buffers.{over_taken}
 use Rattle.refusals.specs.Refusals.{Ruling, row, ◌▸◌, refusal}
+use Rattle.refusals.specs.Reply.{Reply, granted}
 use Rattle.refusals.specs.declared.refusal.Refusal.{Refusal}
 use Rattle.refusals.proofs.Refusals.{both_pass, row_fails, refused_not_zero}
 use Rattle.outline.specs.Outline.{branch, IsRecord}
@@ -21,7 +22,7 @@ use Rattle.choice.specs.Answer as choose
 use Rattle.choice.specs.declared.answer.Figures.{Figures as Choice}
 use Rattle.choice.specs.Answer.{work_taken, curve_of}
 use Rattle.choice.specs.Inner.{first_rows, last_rows, Solvable, Solved}
-use Rattle.choice.proofs.Answers.{part_long, part_solvable}
+use Rattle.choice.proofs.Answers.{part_solvable, solved_answered}
 use Rattle.choice.proofs.Rows.{first_then, last_is, FirstPassed, first_passed, last_passed, rows_passed}
 use Rattle.revise.specs.Moved.{moved, MovesWith}
 use Rattle.revise.specs.Answer.{Call, Figures, Moved, new_outline, old_choice, new_choice, old_best, new_best, movements, remade, Answered, told, bad_revision, judged, figures, reply, marks_after, curve_after, work_after}
@@ -70,6 +71,51 @@ module _ (c : Call) where
           length_most = good.1;
         }
 
+-- ---- remaking
+module _ (c : Call) (h : Revisable c) where
+  -- what is copied to the beginning of a draft
+  pub drafted : {draft : List ℕ} (buffer : List ℕ) → draft ≡ over (new_outline c) buffer → take (length c.outline) draft ≡ new_outline c
+  drafted buffer e =
+      ap (take (length c.outline)) e
+      ∙ over_taken (new_outline c) buffer (length c.outline) (revised_length c.outline c.changed c.to h.is_record)
+
+  -- the revised outline can be solved in the same buffers
+  pub new_solvable : Solvable (new_choice c)
+  new_solvable =
+      let s = h.solvable in
+      let same = alike_size (revised_alike c.outline c.changed c.to h.is_record) in
+      record {
+        searchable = record {
+          formed = revised_formed c.outline c.changed c.to h.is_record h.length_most s.searchable.formed;
+          low = s.searchable.low;
+          locked_fit = revised_fit c.outline c.changed c.to h.is_record c.count s.searchable.locked_fit;
+          work_long = rw same s.searchable.work_long;
+        };
+        marks_long = rw same s.marks_long;
+        curve_long = s.curve_long;
+      }
+
+  -- solved, it tells its best diversity, which moves with the length
+  module _ {marks curve cleared : List ℕ} {choice : Choice} (s : Solved (new_choice c) choice marks curve cleared) where
+    new_shown : choice.diversity ≡ new_best c
+    unfolding choose.figures
+    new_shown =
+        ap (λ (f : Choice). f.diversity) s.told_figures
+        ∙ sym (shown_diversity _ c.way c.count (revised_fit c.outline c.changed c.to h.is_record c.count h.solvable.searchable.locked_fit))
+
+    module _ {old from : ℕ} (d : old ≡ old_best c) (f : from ≡ branch c.outline c.changed) where
+      pub moves_beside : MovesWith (moved old choice.diversity) (moved from c.to)
+      moves_beside =
+          rw (d, new_shown, f)
+          (movement_alike c.outline c.changed c.to h.is_record h.length_most c.way c.count h.solvable.searchable.locked_fit)
+
+      pub choice_remade : {m : Moved} → m.best ≡ moved old choice.diversity → m.length ≡ moved from c.to → MovesWith m.best m.length
+          → Remade c (remade choice m) marks curve cleared
+      choice_remade {m} p q w =
+          record { solved = s; moved_is = ap₂ movements (p ∙ ap₂ moved d new_shown) (q ∙ ap (λ k. moved k c.to) f); moves_with = w }
+
+-- ---- the two ways to answer it
+module _ (c : Call) where
   -- the call with the first n numbers of work
   abbrev pub with_work : ℕ → Call
   with_work n = record {
@@ -83,28 +129,39 @@ module _ (c : Call) where
     work = take n c.work;
   }
 
+  -- where no row of revising holds, no row of choosing does, on the given outline and on the revised one
+  pub old_selected : (judged c).number ≡ 0 → (choose.judged (old_choice c)).number ≡ 0
+  old_selected z = rows_passed (old_choice c) (first_part c z).way_known (passed_revisable c z).solvable
+
+  pub new_selected : (judged c).number ≡ 0 → (choose.judged (new_choice c)).number ≡ 0
+  new_selected z = rows_passed (new_choice c) (first_part c z).way_known (new_solvable c (passed_revisable c z))
+
   module _ (z : (judged c).number ≡ 0) (n : ℕ) (taken : n ≡ work_taken c.outline c.count) where
     pub part_revisable : Revisable (with_work n)
     part_revisable =
-        let r = passed_revisable z in
+        let r = passed_revisable c z in
         record { solvable = part_solvable (old_choice c) r.solvable n taken; is_record = r.is_record; length_most = r.length_most }
 
-    new_taken : work_taken (new_outline c) c.count ≡ n
+    new_taken : n ≡ work_taken (new_outline c) c.count
     new_taken =
-        let r = passed_revisable z in
-        ap (λ k. 4 * ((k + 2) * (c.count + 1))) (alike_size (revised_alike c.outline c.changed c.to r.is_record)) ∙ sym taken
+        let r = passed_revisable c z in
+        taken ∙ ap (λ k. 4 * ((k + 2) * (c.count + 1))) (sym (alike_size (revised_alike c.outline c.changed c.to r.is_record)))
 
     -- a choice remade
     pub remade_answered : {f : Figures} {marks curve work : List ℕ} → Remade (with_work n) f marks curve work
         → Answered c (told (Ok f)) marks curve (work ++ drop n c.work)
-    unfolding reply figures choose.figures marks_after curve_after work_after curve_of over
-    remade_answered s = record {
-      told_reply = rw (z, s.told_figures);
-      moves_with = s.moves_with;
-      marks_written = rw z s.marks_written;
-      curve_written = rw z s.curve_written;
-      work_cleared = rw (z, s.work_cleared, part_long (old_choice c) (passed_revisable z).solvable n taken, new_taken, length-replicate);
-    }
+    unfolding reply figures choose.reply marks_after curve_after work_after choose.marks_after choose.curve_after choose.work_after
+    remade_answered s =
+        let e = new_selected z in
+        let y = solved_answered (new_choice c) (eq-eqb _ _ e) n new_taken s.solved in
+        let chosen : _ ≡ choose.figures (new_choice c) = ap (λ (r : Reply Choice). r.figures) y.told_reply ∙ rw e in
+        record {
+          told_reply = ap granted (ap₂ remade chosen s.moved_is) ∙ rw z;
+          moves_with = s.moves_with;
+          marks_written = y.marks_written ∙ rw (z, e);
+          curve_written = y.curve_written ∙ rw (z, e);
+          work_cleared = y.work_cleared ∙ rw (z, e);
+        }
 
   -- a refusal
   pub refused_answered : (e : Refusal) → refusal e ≡ judged c → Answered c (told (Err e)) c.marks c.curve c.work
@@ -118,69 +175,3 @@ module _ (c : Call) where
         curve_written = rw number;
         work_cleared = rw number;
       }
-
--- ---- remaking
-module _ (c : Call) (h : Revisable c) where
-  -- what is copied to the beginning of a draft
-  pub drafted : {draft : List ℕ} (buffer : List ℕ) → draft ≡ over (new_outline c) buffer → take (length c.outline) draft ≡ new_outline c
-  drafted buffer e =
-      ap (take (length c.outline)) e
-      ∙ over_taken (new_outline c) buffer (length c.outline) (revised_length c.outline c.changed c.to h.is_record)
-
-  -- the revised outline can be solved in the same buffers, whatever work holds by then
-  pub new_solvable : (outline work : List ℕ) → outline ≡ new_outline c → length work ≡ length c.work
-      → Solvable (choose.call outline c.count c.way c.marks c.curve work)
-  new_solvable outline work e l =
-      let s = h.solvable in
-      let same = alike_size (revised_alike c.outline c.changed c.to h.is_record) in
-      rw e (record {
-        searchable = record {
-          formed = revised_formed c.outline c.changed c.to h.is_record h.length_most s.searchable.formed;
-          low = s.searchable.low;
-          locked_fit = revised_fit c.outline c.changed c.to h.is_record c.count s.searchable.locked_fit;
-          work_long = rw (same, l) s.searchable.work_long;
-        };
-        marks_long = rw same s.marks_long;
-        curve_long = s.curve_long;
-      })
-
-  -- its figures have its best diversity
-  figures_best : (choose.figures (new_choice c)).diversity ≡ new_best c
-  unfolding choose.figures
-  figures_best = sym (shown_diversity _ c.way c.count (revised_fit c.outline c.changed c.to h.is_record c.count h.solvable.searchable.locked_fit))
-
-  -- solved, it gives the choice that a call is told
-  module _ {outline work marks curve cleared : List ℕ} {choice : Choice} (e : outline ≡ new_outline c) (l : length work ≡ length c.work)
-      (s : Solved (choose.call outline c.count c.way c.marks c.curve work) choice marks curve cleared) where
-    new_figures : choice ≡ choose.figures (new_choice c)
-    unfolding choose.figures
-    new_figures = s.told_figures ∙ rw e
-
-    new_shown : choice.diversity ≡ new_best c
-    new_shown = ap (λ (f : Choice). f.diversity) new_figures ∙ figures_best
-
-    module _ {old from : ℕ} (d : old ≡ old_best c) (f : from ≡ branch c.outline c.changed) where
-      pub moves_beside : MovesWith (moved old choice.diversity) (moved from c.to)
-      moves_beside =
-          rw (d, new_shown, f)
-          (movement_alike c.outline c.changed c.to h.is_record h.length_most c.way c.count h.solvable.searchable.locked_fit)
-
-      pub choice_remade : {m : Moved} → m.best ≡ moved old choice.diversity → m.length ≡ moved from c.to → MovesWith m.best m.length
-          → Remade c (remade choice m) marks curve cleared
-      unfolding figures curve_of
-      choice_remade {m} p q w = record {
-        told_figures =
-            ap₂ remade new_figures
-            (ap₂ movements (p ∙ ap₂ moved d new_shown) (q ∙ ap (λ k. moved k c.to) f));
-        moves_with = w;
-        marks_written = s.marks_written ∙ rw e;
-        curve_written = s.curve_written ∙ rw e;
-        work_cleared = s.work_cleared ∙ ap (λ n. replicate n 0) l;
-      }
-
--- so where no row of revising holds, no row of choosing does, on the given outline and on the revised one
-pub old_selected : (c : Call) → (judged c).number ≡ 0 → (choose.judged (old_choice c)).number ≡ 0
-old_selected c z = rows_passed (old_choice c) (first_part c z).way_known (passed_revisable c z).solvable
-
-pub new_selected : (c : Call) → (judged c).number ≡ 0 → (choose.judged (new_choice c)).number ≡ 0
-new_selected c z = rows_passed (new_choice c) (first_part c z).way_known (new_solvable c (passed_revisable c z) (new_outline c) c.work refl refl)

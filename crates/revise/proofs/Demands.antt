@@ -19,10 +19,9 @@ use Rattle.outline.proofs.Demands.{sizes_give, records_give}
 use Rattle.outline.proofs.WellFormed.{accepted_formed}
 use Rattle.laws.proofs.Accepted.{formed_accepted}
 use Rattle.choice.specs.Answer as choose
-use Rattle.choice.specs.Answer.{too_short}
 use Rattle.choice.specs.declared.answer.Figures.{Figures as Choice}
 use Rattle.choice.specs.Demands.{TrueOfMarks, FoundBySearch, CallAt}
-use Rattle.choice.proofs.Demands.{none_decided, demand_2, demand_3, best_told}
+use Rattle.choice.proofs.Demands.{none_decided, short_decided, demand_2, demand_3, best_told}
 use Rattle.revise.specs.Revised.{revised}
 use Rattle.revise.specs.Answer.{Call, Figures, no_figures, new_outline, old_choice, new_choice, Answered, numbers_of, told, bad_revision, judged, figures, reply, marks_after, curve_after, work_after}
 use Rattle.revise.specs.Demands.{revise_table, RevisedOrRefused, LengthReplaced, SameSetsFit, choice_in, MovementsTrue}
@@ -48,14 +47,14 @@ told_determined = answer_determined no_figures
 module _ (c : Call) where
   -- what a call is judged is what its table gives
   judged_gives : Gives (revise_table c) (judged c)
-  unfolding judged bad_revision too_short
+  unfolding judged bad_revision
   judged_gives =
       gives_then (gives_way c.way)
       (gives_then (sizes_give c.outline)
       (gives_then (gives_whole 3 (decides_less choose.most_count c.count))
       (gives_then (records_give c.outline)
       (gives_then (gives_whole 15 (decides_either (decides_equal _ _) (decides_either (decides_less _ _) (decides_less _ _))))
-      (gives_then (gives_whole 8 (decides_either (decides_less _ _) (decides_either (decides_less _ _) (decides_less _ _))))
+      (gives_then (gives_whole 8 (short_decided (old_choice c)))
       (gives_whole 11 (none_decided c.outline c.way c.count)))))))
 
 module _ (c : Call) {r : Reply Figures} {marks curve work : List ℕ} (x : Answered c r marks curve work) where

@@ -22,6 +22,7 @@ use Rattle.outline.specs.Answer.{checked}
 use Rattle.outline.proofs.WellFormed.{accepted_formed}
 use Rattle.diversity.specs.Behind.{MarkAt, IsSet}
 use Rattle.measures.specs.Measures.{Measured}
+use Rattle.choice.specs.Answer.{unknown}
 use Rattle.measures.specs.declared.figures.Measure.{Measure}
 use Rattle.sheet.specs.Answer.{Call, sums, Answered, bad_mark, marked_set, sheet_taken, judged, told, figures, reply, sheet_after}
 use Rattle.sheet.specs.Inner.{Listable}
@@ -37,7 +38,7 @@ mark_good o r m a t false e h = let d = eqb-false m 1 e in inl (omega (arith, lt
 module _ (c : Call) where
   -- the rows, one by one, where none holds
   record Passes : Type 0 where
-    ways : (not (eqb c.way 0) && not (eqb c.way 1)) ≡ false
+    ways : unknown c.way ≡ false
     accepted : (checked c.outline).number ≡ 0
     long : size c.outline ≤ length c.marks
     good : (row_at 14 (bad_mark c.outline c.marks) (size c.outline)).number ≡ 0

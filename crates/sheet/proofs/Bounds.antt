@@ -1,8 +1,7 @@
 -- How large the numbers are that a call of `sheet` is told.
 use Prim.Native.Nat.{◌≤◌}
-use mathlib.Core.Bool.{◌&&◌, not}
 use native.Mathlib.Omega.{arith}
-use lib.Dec.{eqb, ltb}
+use lib.Dec.{ltb}
 use lib.ListN.{length}
 use borrow.Author.Tests.{eq-eqb}
 use Rattle.refusals.specs.Refusals.{row, row_at}
@@ -12,6 +11,7 @@ use Rattle.outline.specs.Outline.{size}
 use Rattle.outline.specs.Answer.{checked}
 use Rattle.outline.proofs.WellFormed.{accepted_formed}
 use Rattle.outline.proofs.Placed.{checked_placed}
+use Rattle.choice.specs.Answer.{unknown}
 use Rattle.sheet.specs.Answer.{Call, bad_mark, sheet_taken, judged, reply}
 use Rattle.outline.specs.Rules.{most_records}
 
@@ -20,9 +20,8 @@ module _ (c : Call) where
   unfolding judged
   judged_placed =
       let o = c.outline in
-      let unknown = not (eqb c.way 0) && not (eqb c.way 1) in
       let few = ltb (length c.marks) (size o) in
-      then_placed 14 most_records (row 1 unknown) _ (row_placed 14 most_records 1 unknown (omega arith))
+      then_placed 14 most_records (row 1 (unknown c.way)) _ (row_placed 14 most_records 1 (unknown c.way) (omega arith))
       (λ _. then_placed 14 most_records (checked o) _ (checked_placed 14 (omega arith) o)
       (λ z. then_placed 14 most_records (row 14 few) _ (row_placed 14 most_records 14 few (omega arith))
       (λ _. then_placed 14 most_records (row_at 14 (bad_mark o c.marks) (size o)) _

@@ -18,7 +18,7 @@ use Rattle.refusals.specs.Reply.{Reply, granted}
 use Rattle.refusals.specs.Table.{Gives}
 use Rattle.refusals.proofs.Replies.{told_passed, granted_told, decided, answer_determined}
 use Rattle.refusals.proofs.Tests.{decides_less}
-use Rattle.refusals.proofs.Tables.{gives_then, gives_passed, gives_whole, gives_lowest, gives_way}
+use Rattle.refusals.proofs.Tables.{gives_then, gives_passed, gives_whole, gives_lowest, gives_way, known_way}
 use Rattle.outline.specs.Outline.{size, is_taxon, IsRecord}
 use Rattle.outline.specs.Answer.{checked}
 use Rattle.outline.proofs.Demands.{checked_gives}
@@ -159,8 +159,7 @@ module _ (c : Call) (accepted : (checked c.outline).number ≡ 0) (known : (c.wa
   unfolding judged
   set_listed =
       let long : size c.outline ≤ length c.marks = omega (arith, x.whole, length-take (size c.outline) c.marks) in
-      let way : (not (eqb c.way 0) && not (eqb c.way 1)) ≡ false = ⊎_elim (λ (e : c.way ≡ 0). rw e) (λ (e : c.way ≡ 1). rw e) known in
-      rw (way, accepted, le-ltb _ _ long, no_bad c.outline c.marks x, le-ltb _ _ room)
+      rw (known_way known, accepted, le-ltb _ _ long, no_bad c.outline c.marks x, le-ltb _ _ room)
 
 -- a choice's marks are accepted as they are, and the sums are the choice's cost and diversity
 pub choice_listed : (c : choose.Call) {r : Reply ChoiceFigures} {marks curve work : List ℕ} → choose.Answered c r marks curve work → r.number ≡ 0

@@ -6,6 +6,7 @@ use Rattle.refusals.specs.Reply.{Reply, answer_told, replied}
 use Rattle.outline.specs.Outline.{size, is_taxon}
 use Rattle.outline.specs.Answer.{checked}
 use Rattle.diversity.specs.Diversity.{diversity, cost, chosen_taxa}
+use Rattle.choice.specs.Answer.{unknown}
 use Rattle.sheet.specs.Sheet.{rows_of, sum_of}
 pub use Rattle.sheet.specs.declared.answer.Figures.{Figures}
 
@@ -48,7 +49,7 @@ sheet_taken c = 3 * chosen_taxa c.outline (marked_set c)
 -- the rows in their order: 1, the check's, 14, 9. Marks shorter than N have place 0, a bad mark has its record
 unfoldable pub judged : Call → Ruling
 judged c =
-    row 1 (not (eqb c.way 0) && not (eqb c.way 1))
+    row 1 (unknown c.way)
     ▸ checked c.outline
     ▸ row 14 (ltb (length c.marks) (size c.outline))
     ▸ row_at 14 (bad_mark c.outline c.marks) (size c.outline)

@@ -5,6 +5,7 @@ ghost use Rattle.refusals.specs.Refusals.{told};
 ghost use Rattle.outline.specs.Outline.{size, records, IsRecord};
 ghost use Rattle.sheet.specs.Answer.{call, bad_mark, judged};
 
+use choice::judge::is_unknown;
 use lists::lowest;
 use measures::marked;
 use outline::check;
@@ -36,7 +37,7 @@ fn bad_mark_at(o: &[u8], marks: &[u8]) -> Option<usize>
 pub fn judge(outline: &[u8], way: u32, marks: &[u8], sheet: &[u32]) -> Result<(), Refusal>
     ensures { told result ≡ judged (call outline.now way marks.now sheet.now) }
 {
-    if way != 0 && way != 1 {
+    if is_unknown(way) {
         return Err(Refusal::UnknownWay);
     }
     check(outline)?;
