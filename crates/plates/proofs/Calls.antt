@@ -1,9 +1,9 @@
 -- The demands of calls of the C functions, and what is promised of several of them, `plates_write` and `plates_read`, `plates_choose` and
--- `plates_quick`, `plates_sheet` or `plates_revise`, `plates_quick`, `plates_view_buyer` and `plates_house_form` twice, `plates_compare` up to
--- three times: what is promised of the functions behind them, of the numbers that stand in `answer`.
+-- `plates_quick`, `plates_sheet`, `plates_revise` or `plates_range`, `plates_choose`, `plates_quick`, `plates_view_buyer` and `plates_house_form` twice,
+-- `plates_compare` up to three times: what is promised of the functions behind them, of the numbers that stand in `answer`.
 use Prim.Native.Nat.{ℕ, ◌≤◌}
 use mathlib.Core.Path.{◌≡◌, refl, sym, ap, ◌∙◌}
-use mathlib.Core.Logic.{◌⊎◌, ◌↔◌}
+use mathlib.Core.Logic.{◌≢◌, ◌⊎◌, ◌↔◌}
 use mathlib.Core.Bool.{true}
 use mathlib.Core.List.{List}
 use Rattle.std.specs.Prelude.{ℤ, pos, neg_ℤ}
@@ -34,6 +34,10 @@ use Rattle.revise.specs.Demands as revisions
 use Rattle.revise.specs.Moved.{MovesWith}
 use Rattle.revise.proofs.Demands.{demand_1 as revise_decided, outline_revised, outline_accepted, sets_same, chosen, old_chosen, movements_true}
 use Rattle.revise.proofs.Exactly.{exactly_as_much}
+use Rattle.range.specs.Answer as range
+use Rattle.range.specs.Demands as ranges
+use Rattle.range.specs.Prices.{NoDearer, PricesBetween}
+use Rattle.range.proofs.Demands.{cheaper_chosen, cheaper_told, demand_1 as range_decided, never_17, granted_if, prices_only, chosen as chosen_at_high, left_as_long, ends_between, sure_at, as_long_suffice, between_chosen, between_told, column_told, roof_told, floor_told, floor_to_roof}
 use Rattle.canonical.specs.SameTree.{SameTree}
 use Rattle.house.specs.Answer as house
 use Rattle.house.specs.Compared as compare
@@ -46,7 +50,7 @@ use Rattle.view.specs.Answer as view
 use Rattle.view.specs.Demands.{ShownOrRefused, BuyersCalls, ViewSuffices, SameBytes}
 use Rattle.view.specs.View.{buyer_view}
 use Rattle.view.proofs.Demands.{demand_1 as view_decided, buyers_alike, buyers_alike_whole}
-use Rattle.plates.specs.Interface.{chosen_in, Chosen, quickly_chosen_in, QuicklyChosen, revised_in, LengthRevised, listed_in, SheetListed, read_in, TextRead, written_in, TextWritten, ruling_in, Viewed, Formed, order_number, compared_in, TreesCompared}
+use Rattle.plates.specs.Interface.{chosen_in, Chosen, quickly_chosen_in, QuicklyChosen, revised_in, LengthRevised, surely_chosen_in, SurelyChosen, listed_in, SheetListed, read_in, TextRead, written_in, TextWritten, ruling_in, Viewed, Formed, order_number, compared_in, TreesCompared}
 
 -- the number of an order that is turned round
 negated : (o : Ordering) → order_number (ordering_reverse o) ≡ neg_ℤ (order_number o)
@@ -137,6 +141,87 @@ module _ {c : revise.Call} {n : ℕ} {answer : List ℕ} {moved : List ℤ} {mar
         → Chosen d k answer' before curve' work' → k ≡ 0
         → revisions.ExactlyAsMuch c (revised_in moved answer) marks (chosen_in answer') before
     revised_exactly at y f = exactly_as_much c x.given.answered told_0 at y.answered (sym y.number_given ∙ f)
+
+-- of two calls of `plates_choose` at the same count and by the same way, on outlines that differ in prices only: where the one at the dearer prices is
+-- not refused, the one at the cheaper is not either, if its buffers are long enough, and is told no less diversity
+module _ {o p : List ℕ} (d : NoDearer o p) {count way : ℕ} {dear : choose.Call} (there : choices.CallAt p count way dear) {n : ℕ}
+    {answer marks curve work : List ℕ} (y : Chosen dear n answer marks curve work) (z : n ≡ 0) {cheap : choose.Call}
+    (here : choices.CallAt o count way cheap) {k : ℕ} {answer' m w v : List ℕ} (x : Chosen cheap k answer' m w v) where
+  pub cheaply_chosen : (choices.TooShort cheap → ⊥) → k ≡ 0
+  cheaply_chosen long = x.number_given ∙ cheaper_chosen d there y.answered (sym y.number_given ∙ z) here x.answered long
+
+  pub cheaply_told : k ≡ 0 → get_or answer 2 0 ≤ get_or answer' 2 0
+  cheaply_told f = cheaper_told d there y.answered (sym y.number_given ∙ z) here x.answered (sym x.number_given ∙ f)
+
+-- so it is with a range of prices: outlines that differ in prices only, with no low price above its high, never get 17, and no refusal where
+-- `plates_choose` at high prices does not refuse and the buffers are long enough. Where there is no refusal they are such outlines, and what is given
+-- and left is what `plates_choose` at high prices, lent the same buffers, gives and leaves
+module _ {c : range.Call} {n : ℕ} {answer : List ℕ} {roof : ℕ} {marks curve work : List ℕ} (x : SurelyChosen c n answer roof marks curve work) where
+  pub surely_decided : ranges.RangedOrRefused c (surely_chosen_in roof answer) marks curve work
+  surely_decided = range_decided c x.answered
+
+  pub surely_never_17 : NoDearer c.low c.high → n ≢ 17
+  surely_never_17 d e = never_17 c x.answered d (sym x.number_given ∙ e)
+
+  pub surely_granted : NoDearer c.low c.high → {d : choose.Call} → choices.CallAt c.high c.count c.way d → {k : ℕ} {answer' m w v : List ℕ}
+      → Chosen d k answer' m w v → k ≡ 0 → (choices.TooShort (range.high_choice c) → ⊥) → n ≡ 0
+  surely_granted prices at y f long =
+      x.number_given ∙ granted_if c x.answered prices at y.answered (sym y.number_given ∙ f) long
+
+  module _ (z : n ≡ 0) where
+    surely_0 : (surely_chosen_in roof answer).number ≡ 0
+    surely_0 = sym x.number_given ∙ z
+
+    pub surely_prices_only : NoDearer c.low c.high
+    surely_prices_only = prices_only c x.answered surely_0
+
+    pub surely_chosen : Chosen (range.high_choice c) n answer marks curve work
+    surely_chosen = record { answer_long = x.answer_long; number_given = x.number_given; answered = chosen_at_high c x.answered surely_0 }
+
+    pub surely_true : choices.TrueOfMarks (range.high_choice c) (chosen_in answer) marks
+    surely_true = chosen_true surely_chosen z
+
+    pub surely_found : choices.FoundBySearch (range.high_choice c) (chosen_in answer) marks curve
+    surely_found = chosen_found surely_chosen z
+
+    -- for all prices between, those at both ends too: the marked set fits, with the floor as its diversity, and the best lies from floor to roof. A
+    -- call of `plates_choose` there, at the same count and by the same way, is not refused if its buffers are long enough, as these are, and is told a
+    -- diversity from floor to roof; one for a smaller count, if it is not refused, no less than the curve has for it
+    pub surely_ends : PricesBetween c.low c.low c.high × PricesBetween c.low c.high c.high
+    surely_ends = ends_between c x.answered surely_0
+
+    pub surely_as_long : ranges.AsLong c marks curve work
+    surely_as_long = left_as_long c x.answered surely_0
+
+    module _ {mid : List ℕ} (at : PricesBetween c.low mid c.high) where
+      pub surely_at : ranges.SureAt c (surely_chosen_in roof answer) marks mid
+      surely_at = sure_at c x.answered surely_0 at
+
+      pub surely_suffice : {m w v : List ℕ} → ranges.AsLong c m w v → choices.TooShort (choose.call mid c.count c.way m w v) → ⊥
+      surely_suffice = as_long_suffice c x.answered surely_0 at
+
+      module _ {d : choose.Call} (here : choices.CallAt mid c.count c.way d) {k : ℕ} {answer' m w v : List ℕ} (y : Chosen d k answer' m w v) where
+        pub surely_not_refused : (choices.TooShort d → ⊥) → k ≡ 0
+        surely_not_refused long = y.number_given ∙ between_chosen c x.answered surely_0 at here y.answered long
+
+        pub surely_between : k ≡ 0 → ranges.FromFloorToRoof (surely_chosen_in roof answer) (get_or answer' 2 0)
+        surely_between f = between_told c x.answered surely_0 at here y.answered (sym y.number_given ∙ f)
+
+      pub surely_column : {b : ℕ} → b ≤ c.count → {d : choose.Call} → choices.CallAt mid b c.way d → {k : ℕ} {answer' m w v : List ℕ}
+          → Chosen d k answer' m w v → k ≡ 0 → choose.diversity_at curve b ≤ get_or answer' 2 0
+      surely_column h here y f = column_told c x.answered surely_0 at h here y.answered (sym y.number_given ∙ f)
+
+    -- the roof is what such a call at low prices is told, and the floor what one at high prices is told; no floor is above its roof
+    pub surely_roof : {d : choose.Call} → choices.CallAt c.low c.count c.way d → {k : ℕ} {answer' m w v : List ℕ} → Chosen d k answer' m w v
+        → k ≡ 0 → roof ≡ get_or answer' 2 0
+    surely_roof here y f = roof_told c x.answered surely_0 here y.answered (sym y.number_given ∙ f)
+
+    pub surely_floor : {d : choose.Call} → choices.CallAt c.high c.count c.way d → {k : ℕ} {answer' m w v : List ℕ} → Chosen d k answer' m w v
+        → k ≡ 0 → get_or answer 2 0 ≡ get_or answer' 2 0
+    surely_floor here y f = floor_told c x.answered surely_0 here y.answered (sym y.number_given ∙ f)
+
+    pub surely_floor_to_roof : get_or answer 2 0 ≤ roof
+    surely_floor_to_roof = floor_to_roof c x.answered surely_0
 
 pub listed_decided : {c : sheet.Call} {n : ℕ} {answer lent : List ℕ} → SheetListed c n answer lent
     → sheets.ListedOrRefused c (listed_in answer) lent

@@ -9,6 +9,8 @@ use Rattle.quick.specs.Answer as quick
 use Rattle.quick.specs.declared.answer.Figures.{Figures as QuickFigures}
 use Rattle.revise.specs.Answer as revise
 use Rattle.revise.specs.declared.answer.Figures.{Figures as RevisedFigures}
+use Rattle.range.specs.Answer as range
+use Rattle.range.specs.declared.answer.Figures.{Figures as RangeFigures}
 use Rattle.reading.specs.Answer as read
 use Rattle.reading.specs.declared.answer.Figures.{Figures as ReadingFigures}
 use Rattle.writing.specs.Answer as write
@@ -59,6 +61,14 @@ revised_in moved answer =
 pub record LengthRevised (c : revise.Call) (number : ℕ) (answer : List ℕ) (moved : List ℤ) (marks curve work : List ℕ) : Type 0 where
   pub given : Given 6 (revised_in moved) (λ r. revise.Answered c r marks curve work) number answer
   pub moved_long : length moved ≡ 2
+
+-- the six numbers of a choice at high prices, with the roof that is written beside them
+abbrev pub surely_chosen_in : ℕ → List ℕ → Reply RangeFigures
+surely_chosen_in roof answer = reply_in answer (range.with_roof (chosen_in answer).figures roof)
+
+-- a call is answered by them as `range` answers it
+abbrev pub SurelyChosen : range.Call → ℕ → List ℕ → ℕ → List ℕ → List ℕ → List ℕ → Type 0
+SurelyChosen c number answer roof marks curve work = Given 6 (surely_chosen_in roof) (λ r. range.Answered c r marks curve work) number answer
 
 -- the five numbers of a sheet
 abbrev pub listed_in : List ℕ → Reply SheetFigures

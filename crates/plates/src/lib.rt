@@ -1,6 +1,6 @@
-// The C interface: checking an outline, finding a plate's record, choosing, choosing quickly, listing a marked set, reading a tree from
-// text, writing it as text, showing an outline to a house reader and to a buyer's, writing the house form of a tree and comparing two, over
-// memory that the caller lends. include/plates.h declares these functions.
+// The C interface: checking an outline, finding a plate's record, choosing, choosing quickly, with one length revised, and for a range of prices,
+// listing a marked set, reading a tree from text, writing it as text, showing an outline to a house reader and to a buyer's, writing the house form
+// of a tree and comparing two, over memory that the caller lends. include/plates.h declares these functions.
 #![tactic(auto)]
 
 ghost use Rattle.std.specs.Prelude.{◌≡◌, ◌≤◌, ◌-◌, ◌∷◌, length, replicate};
@@ -11,18 +11,20 @@ ghost use Rattle.writing.specs.Answer.{call as writing};
 ghost use Rattle.choice.specs.Answer.{call};
 ghost use Rattle.quick.specs.Answer.{call as picking};
 ghost use Rattle.revise.specs.Answer.{call as revising};
+ghost use Rattle.range.specs.Answer.{call as ranging};
 ghost use Rattle.sheet.specs.Answer.{call as listing};
 ghost use Rattle.house.specs.Answer.{call as forming};
 ghost use Rattle.house.specs.Compared.{call as comparing};
 ghost use Rattle.view.specs.Answer.{call as viewing};
 ghost use Rattle.view.specs.View.{house_view, buyer_view};
-ghost use Rattle.plates.specs.Interface.{Chosen, QuicklyChosen, LengthRevised, SheetListed, TextRead, TextWritten, Viewed, Formed, TreesCompared, Given, ruling_in};
+ghost use Rattle.plates.specs.Interface.{Chosen, QuicklyChosen, LengthRevised, SurelyChosen, SheetListed, TextRead, TextWritten, Viewed, Formed, TreesCompared, Given, ruling_in};
 ghost use Rattle.outline.specs.Rules.{most_records};
 
 use choice::choose;
 use house::{compare, house_form};
 use outline::{check, find_record};
 use quick::quick;
+use range::range;
 use reading::read;
 use refusals::Refusal;
 use revise::revise;
@@ -167,6 +169,44 @@ pub extern "C" fn plates_revise(
         }
         Err(refusal) => {
             *moved = [0, 0];
+            refuse(refusal, answer)
+        }
+    }
+}
+
+// Chooses at high prices, and writes number, place, diversity, cost, number of taxa and spare, and beside them the best diversity at low prices,
+// 0 on a refusal; the number is given as well.
+#[unsafe(no_mangle)]
+pub extern "C" fn plates_range(
+    low: &[u8],
+    high: &[u8],
+    count: u32,
+    way: u32,
+    marks: &mut [u8],
+    curve: &mut [u32],
+    work: &mut [u64],
+    answer: &mut [u32; 6],
+    roof: &mut u32,
+) -> u32
+    ensures { SurelyChosen
+        (ranging low.now high.now count way marks.old curve.old work.old)
+        result answer.new roof.new marks.new curve.new work.new }
+{
+    match range(low, high, count, way, marks, curve, work) {
+        Ok(f) => {
+            *roof = f.roof;
+            *answer = [
+                0,
+                0,
+                f.choice.diversity,
+                f.choice.cost,
+                f.choice.taxa,
+                f.choice.spare,
+            ];
+            0
+        }
+        Err(refusal) => {
+            *roof = 0;
             refuse(refusal, answer)
         }
     }
