@@ -6,8 +6,10 @@
  * group's heading, and a page count, and may lock species that must be in the guide. The library gives the best set of plates
  * for that count, and for every smaller count the best that can be reached. That is not a heuristic: among all the sets that
  * fit, no other is better. While a page count is still being turned, a quick choice can be had: it may be poorer than the best,
- * and tells by how much at most. Where a length changes between editions, the library tells how far that moves the best. In the
- * literature the problem is called phylogenetic diversity under a budget (Pardi and Goldman, Systematic Biology 56(3), 2007).
+ * and tells by how much at most. Where a length changes between editions, the library tells how far that moves the best. While
+ * prices are known only as low and high, it tells which set fits whatever is agreed, and between which numbers the best then is.
+ * In the literature the problem is called phylogenetic diversity under a budget (Pardi and Goldman, Systematic Biology 56(3),
+ * 2007).
  *
  *     plates_read         the outline of a tree in Newick form
  *     plates_write        an outline's tree in Newick form again
@@ -16,6 +18,7 @@
  *     plates_choose       the best taxa for a page count
  *     plates_quick        a quick choice for a page count that is still being turned, with a ceiling for the best
  *     plates_revise       the best taxa once one length is revised, and how far the best diversity moves by that
+ *     plates_range        the taxa that fit whatever prices are agreed between low and high, and where the best then is
  *     plates_sheet        the taxa of a set, with the quarters and the diversity that each adds
  *     plates_view_house   an outline as a house reader gets it, as it is
  *     plates_view_buyer   an outline as a buyer's reader gets it, without prices and locks
@@ -37,6 +40,9 @@
  *     pick       one step of a quick choice: a taxon is added to the set
  *     ceiling    a number that comes with a quick choice, and that the best diversity is never above
  *     revised    said of an outline in which the length of one record has been replaced by another
+ *     sure set   the best set at high prices: it fits the page count for all prices between low and high
+ *     floor      the diversity of the sure set, and a number that the best diversity is never below for prices between
+ *     roof       the best diversity at low prices, and a number that the best diversity is never above for prices between
  *     sheet      the taxa of a set in record order, each with its plate, the quarters and the diversity that it adds
  *     view       an outline as a reader gets it: as it is for a house reader, who may see prices and locks, and without these
  *                for a buyer's reader, who may not
@@ -271,6 +277,42 @@
  * plates costs the same before and after, so the given outline has a choice for a page count exactly if the revised one has.
  *
  *
+ * PRICES NOT YET AGREED
+ *
+ * Before the artwork is in, what a plate will cost is known as low and high only. plates_range takes two outlines, one with the low
+ * prices and one with the high ones, and tells what can be promised now: a set of taxa that fits the page count whatever is agreed,
+ * so that their authors can be told that they are in, and two numbers that the best diversity will lie between. The outlines may
+ * differ in prices only, of taxa and of headings, and no low price is above the high price of the same record. A price that is
+ * agreed already is the same in both. plates_read makes such outlines of one text with two lists of pairs.
+ *
+ * The set, its numbers and the curve are those that plates_choose gives of the high outline, for the same count and way. The set
+ * is the sure set, and its diversity the floor. Beside them *roof is the best diversity of the low outline.
+ *
+ * In tree A let plate 11 cost 3 to 4 quarters, and the others 1 and 2 as before. Rooted:
+ *
+ *     count  sure set    floor  cost  spare  roof
+ *       0    none           0     0     0      0
+ *       2    12             5     1     1      5
+ *       3    12 and 13     10     3     0     10
+ *       5    12 and 13     10     3     2     12    at 3 quarters for plate 11, plates 11 and 13 fit
+ *       6    11 and 13     12     6     0     14    at 3 quarters for plate 11, all three fit
+ *
+ * What is promised, either way of counting, of every outline between: one that differs from the low one in prices only, with no
+ * price below that of the low outline or above that of the high one:
+ *
+ * - The sure set fits the page count. It costs at most what the answer says, so at least the spare is left over.
+ * - The best diversity, which plates_choose gives of that outline for the same count and way, is at least the floor and at most the
+ *   roof. plates_check accepts that outline, and its locked taxa are not too dear (12).
+ *
+ * The low and the high outline are between, too. Where floor and roof are equal, the sure set has the best diversity whatever is
+ * agreed.
+ *
+ * What is not promised: once prices are agreed another set may be better than the sure set, and need not have its plates. In the table
+ * plate 12 is sure at count 5, and plates 11 and 13 are the best if plate 11 comes to cost 3. Nor need a plate that is sure at one
+ * count be so at a larger one: plate 12 is not at count 6. The curve is that of the high prices. So it tells the floor of a smaller
+ * count, and neither its roof nor its sure set, for which plates_range is called with that count.
+ *
+ *
  * THE SHEET
  *
  * plates_sheet lists the taxa of a marked set in record order, so that the foot of a page can be checked against the panel. Each
@@ -363,23 +405,23 @@
  *
  * WHAT THE CALLER HAS TO KEEP
  *
- * marks, curve and work of plates_choose and plates_revise are lent space, and so are the marks of plates_quick, the outline of
- * plates_read, the text and pairs of plates_write, the sheet of plates_sheet, the view of plates_view_house and
+ * marks, curve and work of plates_choose, plates_revise and plates_range are lent space, and so are the marks of plates_quick, the
+ * outline of plates_read, the text and pairs of plates_write, the sheet of plates_sheet, the view of plates_view_house and
  * plates_view_buyer, the form of plates_house_form and both forms of plates_compare: buffers that a result is written to, and
- * that a refusal leaves as they were. answer, place, ceiling, moved and order are no lent space. They carry the numbers that a
- * call gives, so they are written in any case, on a refusal too.
+ * that a refusal leaves as they were. answer, place, ceiling, moved, roof and order are no lent space. They carry the numbers that
+ * a call gives, so they are written in any case, on a refusal too.
  *
  * - No pointer is null, not even where the length is 0, and each points to at least as many elements as its length says.
- *   Lengths are numbers of elements: text_len, outline_len, a_len, b_len, marks_len, view_len, form_len, form_a_len and
- *   form_b_len in bytes, pairs_len, curve_len and sheet_len in uint32_t, work_len in uint64_t. The answer of plates_choose and
- *   plates_revise has 6 elements, that of plates_read has 3, that of plates_write has 4, that of plates_quick and plates_sheet
- *   has 5, that of plates_view_house, plates_view_buyer, plates_house_form and plates_compare has 2; moved has 2; place, ceiling
- *   and order have 1.
+ *   Lengths are numbers of elements: text_len, outline_len, low_len, high_len, a_len, b_len, marks_len, view_len, form_len,
+ *   form_a_len and form_b_len in bytes, pairs_len, curve_len and sheet_len in uint32_t, work_len in uint64_t. The answer of
+ *   plates_choose, plates_revise and plates_range has 6 elements, that of plates_read has 3, that of plates_write has 4, that of
+ *   plates_quick and plates_sheet has 5, that of plates_view_house, plates_view_buyer, plates_house_form and plates_compare has 2;
+ *   moved has 2; place, ceiling, roof and order have 1.
  * - Each pointer is aligned as its element type asks. Text, outlines, marks, views and forms may begin at any byte.
- * - What a call writes (lent space, answer, place, ceiling, moved, order) overlaps nothing else that it is handed: neither a view
- *   nor a house form is made in the place of its outline, and the two forms of plates_compare overlap neither outline nor each
+ * - What a call writes (lent space, answer, place, ceiling, moved, roof, order) overlaps nothing else that it is handed: neither a
+ *   view nor a house form is made in the place of its outline, and the two forms of plates_compare overlap neither outline nor each
  *   other. What a call only reads may overlap: the outline and the marks of plates_sheet may be the same memory, and so may the
- *   two outlines of plates_compare.
+ *   two outlines of plates_compare and those of plates_range.
  * - While a call runs, nobody else writes what it is handed, and nobody else reads what it writes.
  *
  * What stands before a call where it writes makes no difference; that need not be initialised.
@@ -393,15 +435,16 @@
  * - Nothing is allocated, no file is touched, and there is no global state. Calls on different buffers may run at the same
  *   time, and may share what they only read.
  * - Nothing is written but what is named at each function, and no byte 0 behind a text. Only plates_read writes to the outline
- *   that it is handed, and only plates_choose, plates_quick and plates_revise to the marks.
- * - The time of a call is bounded. That of plates_choose grows linearly with the count, and plates_revise does no more than two
- *   calls of plates_choose do, beside copying the outline; checking, finding, the quick choice, the sheet, the views, the house form
- *   and comparing take at most a few steps for each pair of records of an outline, the quick choice also for each pick with each
- *   record, writing also for each byte of the text, and reading also for each byte of the text and for each record with each pair
- *   of numbers.
- * - Little stack is used, since the table stands in work: choosing, revising, the quick choice, writing, the sheet, the house
- *   form and comparing nest no deeper than there are records, which takes less than 64 KB on x86-64 for the deepest outlines.
- *   Reading a text takes less than 70 KB, however deep it is: its calls nest for 127 records, and no deeper.
+ *   that it is handed, and only plates_choose, plates_quick, plates_revise and plates_range to the marks.
+ * - The time of a call is bounded. That of plates_choose grows linearly with the count. plates_revise does no more than two calls of
+ *   plates_choose do, beside copying the outline, and neither does plates_range, beside comparing its outlines. Checking, finding,
+ *   the quick choice, the sheet, the views, the house form and comparing take at most a few steps for each pair of records of an
+ *   outline, the quick choice also for each pick with each record, writing also for each byte of the text, and reading also for
+ *   each byte of the text and for each record with each pair of numbers.
+ * - Little stack is used, since the table stands in work: choosing, revising, the quick choice, the choice for a range of prices,
+ *   writing, the sheet, the house form and comparing nest no deeper than there are records, which takes less than 64 KB on x86-64
+ *   for the deepest outlines. Reading a text takes less than 70 KB, however deep it is: its calls nest for 127 records, and no
+ *   deeper.
  */
 #ifndef PLATES_H
 #define PLATES_H
@@ -480,7 +523,7 @@ extern "C" {
 #define PLATES_MOST_WORK_LEN PLATES_WORK_LEN(PLATES_MOST_RECORDS, PLATES_MOST_COUNT)
 #define PLATES_MOST_SHEET_LEN PLATES_SHEET_LEN(PLATES_MOST_TAXA)
 
-/* The ways, as plates_choose, plates_revise and plates_sheet take them. */
+/* The ways, as plates_choose, plates_revise, plates_range and plates_sheet take them. */
 enum plates_way {
     PLATES_ROOTED = 0,
     PLATES_UNROOTED = 1
@@ -501,7 +544,7 @@ enum plates_order {
  * their numbers unless the function says another, and the first that holds is given. A refusal has a place: the number of the
  * record at fault, from 1, or 0 where no one record is.
  *
- * Later versions add refusals, with numbers from 17 on. So treat any number other than PLATES_OK as a refusal, also one that is
+ * Later versions add refusals, with numbers from 18 on. So treat any number other than PLATES_OK as a refusal, also one that is
  * not named here: give a switch over these a default.
  */
 enum plates_refusal {
@@ -525,7 +568,7 @@ enum plates_refusal {
     PLATES_TOO_MANY_TAXA = 7,
     /* An earlier taxon has the same plate, whatever their locks; place is the lowest such record, so the later of the two. */
     PLATES_DUPLICATE_PLATE = 8,
-    /* marks, curve or work of plates_choose or plates_revise is shorter than PLATES_MARKS_LEN, PLATES_CURVE_LEN or
+    /* marks, curve or work of plates_choose, plates_revise or plates_range is shorter than PLATES_MARKS_LEN, PLATES_CURVE_LEN or
      * PLATES_WORK_LEN says, or the marks of plates_quick than PLATES_MARKS_LEN says, or the outline of plates_read, a view or a
      * house form than PLATES_OUTLINE_LEN says, or the text or the pairs of plates_write than what is to be written, or the sheet
      * than PLATES_SHEET_LEN says; place 0. */
@@ -548,10 +591,15 @@ enum plates_refusal {
     PLATES_TOO_MANY_PICKS = 15,
     /* The record to revise is 0 or above the number of records, or its new length is above 1,000,000; place 0. It is judged after
      * 8 and before 9. */
-    PLATES_BAD_REVISION = 16
+    PLATES_BAD_REVISION = 16,
+    /* The low and the high outline have different numbers of records; place 0. Or a byte of the record outside its price differs,
+     * the lock included, or its low price is above its high one, be it a taxon or a group; place is the lowest such record. It is
+     * judged after 8 and before 4. */
+    PLATES_BAD_RANGE = 17
 };
 
-/* What stands where in the answer of plates_choose, and in that of plates_revise, which tells of the revised outline. */
+/* What stands where in the answer of plates_choose, in that of plates_revise, which tells of the revised outline, and in that of
+ * plates_range, which tells of the high prices. */
 enum plates_answer {
     /* The refusal's number or PLATES_OK: the same that the call gives. */
     PLATES_ANSWER_NUMBER = 0,
@@ -731,6 +779,27 @@ uint32_t plates_quick(const uint8_t *outline, size_t outline_len, uint32_t count
 uint32_t plates_revise(const uint8_t *outline, size_t outline_len, uint32_t record, uint32_t length, uint32_t count, uint32_t way,
                        uint8_t *marks, size_t marks_len, uint32_t *curve, size_t curve_len,
                        uint64_t *work, size_t work_len, uint32_t answer[6], int64_t moved[2]);
+
+/*
+ * Chooses for prices that are not yet agreed: the best set of taxa for a page count at high prices, and the best diversity at low
+ * ones.
+ *
+ * Gives PLATES_OK, or the first of these that holds, in this order: 1; the refusal that plates_check gives for low; the one that it
+ * gives for high; 17, 4, 9 and 12. Writes all six elements of answer and *roof in any case. The place of a refusal by the check is
+ * a record of low where plates_check refuses low, and otherwise of high. Buffers are too short (9), and locked taxa too dear (12),
+ * where they are for plates_choose on high. On a refusal *roof is 0. On PLATES_OK:
+ *
+ *     marks, curve, work, answer   as plates_choose leaves them for high, with the same count, way and buffers: the marked set is
+ *                                  the sure set, and the diversity of the answer the floor
+ *     *roof                        the best diversity that plates_choose gives of low, with the same count and way
+ *
+ * The sure set fits the count for all prices between, and the best diversity then is at least the floor and at most the roof: see
+ * PRICES NOT YET AGREED. Elements beyond those that plates_choose writes stay as they were, so a buffer may be longer than needed.
+ * On a refusal marks, curve and work all stay as they were.
+ */
+uint32_t plates_range(const uint8_t *low, size_t low_len, const uint8_t *high, size_t high_len, uint32_t count, uint32_t way,
+                      uint8_t *marks, size_t marks_len, uint32_t *curve, size_t curve_len,
+                      uint64_t *work, size_t work_len, uint32_t answer[6], uint32_t *roof);
 
 /*
  * Lists the taxa of a marked set, with what each adds.
