@@ -41,6 +41,9 @@ examples: lib
 	$(CC) -std=c11 -O2 -Wall -Wextra -pedantic -Iinclude examples/second_edition.c $(LIBRARY) -o target/examples/second_edition
 	target/examples/second_edition
 	$(CARGO) run --offline --manifest-path bindings/rust/Cargo.toml --example second_edition
+	$(CC) -std=c11 -O2 -Wall -Wextra -pedantic -Iinclude examples/prices_open.c $(LIBRARY) -o target/examples/prices_open
+	target/examples/prices_open
+	$(CARGO) run --offline --manifest-path bindings/rust/Cargo.toml --example prices_open
 
 scale: lib
 	bash tests/run

@@ -103,7 +103,7 @@ impl Choice {
     }
 }
 
-/// Memory for choosing and revising, to use again from call to call.
+/// Memory for choosing, revising and choosing for a range of prices, to use again from call to call.
 ///
 /// It grows as calls need it, to 17 MB for the largest outline and count, and doesn't shrink. It
 /// holds nothing that a later choice depends on.

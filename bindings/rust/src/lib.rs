@@ -7,8 +7,10 @@
 //! best that can be reached for every smaller count. That is not a heuristic: among all the sets
 //! that fit, no other is better. While a page count is still being turned, a quick choice can be
 //! had: it may be poorer than the best, and tells by how much at most. Where a length changes
-//! between editions, the library tells how far that moves the best. In the literature the problem is
-//! called phylogenetic diversity under a budget (Pardi and Goldman, Systematic Biology 56(3), 2007).
+//! between editions, the library tells how far that moves the best. While prices are known only as
+//! low and high, it tells which set fits whatever is agreed, and between which numbers the best then
+//! is. In the literature the problem is called phylogenetic diversity under a budget (Pardi and
+//! Goldman, Systematic Biology 56(3), 2007).
 //!
 //! An [`Outline`] is a tree that has been checked. It is read from text in Newick form with
 //! [`Outline::from_newick`], or made from a [`Tree`], which is built by nesting; groups whose
@@ -17,15 +19,17 @@
 //! outline, a page count and a [`Way`]; [`Outline::quick_choice`] gives a [`QuickChoice`], which
 //! need not be the best, with a ceiling for the best. [`Outline::revise`] gives a [`Revision`]: the
 //! choice once one length is revised, and how far the best diversity moves by that.
-//! [`Outline::sheet`] lists the taxa of a choice, or of any other set, with what each adds in
-//! quarters and in diversity. [`Outline::to_newick`] writes an outline as text again, to return a
-//! tree to its author. [`Outline::for_buyer`] gives what a buyer's editor may see, without prices
-//! and locks; [`view_buyer`] and [`view_house`] write what a buyer's and a house reader get to
-//! memory that the caller lends. [`Outline::house_form`] gives the one outline of a tree, however
-//! its members are ordered and its records numbered, and [`Outline::cmp_tree`] compares two trees
-//! by it; [`house_form`] and [`compare`] do the same from bytes to memory that the caller lends.
-//! What is wrong with a text, an outline, a page count, a number of picks, a revision or marks is
-//! told as a [`Refusal`].
+//! [`Outline::range`] gives a [`SureChoice`]: what fits for all prices between those of two
+//! outlines, and the floor and the roof of the best diversity then. [`Outline::sheet`] lists the
+//! taxa of a choice, or of any other set, with what each adds in quarters and in diversity.
+//! [`Outline::to_newick`] writes an outline as text again, to return a tree to its author.
+//! [`Outline::for_buyer`] gives what a buyer's editor may see, without prices and locks;
+//! [`view_buyer`] and [`view_house`] write what a buyer's and a house reader get to memory that the
+//! caller lends. [`Outline::house_form`] gives the one outline of a tree, however its members are
+//! ordered and its records numbered, and [`Outline::cmp_tree`] compares two trees by it;
+//! [`house_form`] and [`compare`] do the same from bytes to memory that the caller lends.
+//! What is wrong with a text, an outline, a page count, a number of picks, a revision, a range of
+//! prices or marks is told as a [`Refusal`].
 //!
 //! ```
 //! use plates::{Outline, Tree, Way};
@@ -68,6 +72,7 @@ mod house;
 mod newick;
 mod outline;
 mod quick;
+mod range;
 mod refusal;
 mod revise;
 mod sheet;
@@ -80,6 +85,7 @@ pub use house::{compare, house_form};
 pub use newick::{Newick, MOST_TEXT_LEN};
 pub use outline::{Outline, Record, MOST_PLATE, MOST_RECORDS, MOST_TAXA, RECORD_BYTES};
 pub use quick::{QuickChoice, MOST_PICKS};
+pub use range::SureChoice;
 pub use refusal::Refusal;
 pub use revise::Revision;
 pub use sheet::{Row, Sheet};

@@ -4,18 +4,18 @@ use std::error::Error;
 use std::fmt;
 
 /// Why an outline, a text or a call is refused. Where several reasons hold, the first in this order
-/// is given, but for three things: reading a text has an order of its own, which
+/// is given, but for four things: reading a text has an order of its own, which
 /// [`Outline::from_newick`](crate::Outline::from_newick) says, numbers 13, 14 and 16 are judged
-/// before 9, and number 15 is judged after 4 and before 5.
+/// before 9, number 15 is judged after 4 and before 5, and number 17 is judged after 8 and before 4.
 ///
-/// The library's table of refusals grows: later versions add numbers from 17 on. So a `match` has
+/// The library's table of refusals grows: later versions add numbers from 18 on. So a `match` has
 /// an arm for the rest, and a number that these bindings do not know is a refusal all the same, as
 /// [`Other`](Refusal::Other).
 ///
 /// Through the safe interface only some of them arise: the bytes of an [`Outline`](crate::Outline)
 /// are refused with numbers 2, 3 and 5 to 8, a text with 3, 5, 7, 8, 10 and 11, choosing with
-/// numbers 4 and 12, a quick choice with 4, 12 and 15, revising a length with 4, 12 and 16, writing
-/// with 13, listing a sheet with 14.
+/// numbers 4 and 12, a quick choice with 4, 12 and 15, revising a length with 4, 12 and 16, choosing
+/// for a range of prices with 4, 12 and 17, writing with 13, listing a sheet with 14.
 /// Number 9 is for those who lend the memory of a view or of a house form, or call
 /// [`sys`](crate::sys), and number 1 for the latter only.
 ///
@@ -89,6 +89,13 @@ pub enum Refusal {
     TooManyPicks,
     /// 16: the outline has no record of the number to revise, or its new length is above 1,000,000.
     BadRevision,
+    /// 17: the outlines with low and high prices have different numbers of records; or a record
+    /// differs in something else than its price, its lock included; or its low price is above its
+    /// high one.
+    BadRange {
+        /// The lowest such record, from 1; `None` where the numbers of records differ.
+        record: Option<u32>,
+    },
     /// A number that these bindings do not know, from a later version of the library. A later
     /// version of the bindings may have a name for it.
     #[non_exhaustive]
@@ -136,6 +143,9 @@ impl Refusal {
             },
             15 => Refusal::TooManyPicks,
             16 => Refusal::BadRevision,
+            17 => Refusal::BadRange {
+                record: (place != 0).then_some(place),
+            },
             _ => Refusal::Other { number, place },
         })
     }
@@ -168,6 +178,7 @@ impl Refusal {
             Refusal::BadMarks { .. } => 14,
             Refusal::TooManyPicks => 15,
             Refusal::BadRevision => 16,
+            Refusal::BadRange { .. } => 17,
             Refusal::Other { number, .. } => number,
         }
     }
@@ -180,7 +191,7 @@ impl Refusal {
             | Refusal::BadLink { record }
             | Refusal::DuplicatePlate { record }
             | Refusal::Unwritable { record } => Some(record),
-            Refusal::BadMarks { record } => record,
+            Refusal::BadMarks { record } | Refusal::BadRange { record } => record,
             Refusal::Other { place, .. } if place != 0 => Some(place),
             _ => None,
         }
@@ -227,6 +238,12 @@ impl fmt::Display for Refusal {
             Refusal::TooManyPicks => "more than 64 picks are asked for",
             Refusal::BadRevision => {
                 "there is no record of the number to revise, or its new length is above 1000000"
+            }
+            Refusal::BadRange { record: Some(_) } => {
+                "it differs in something else than its price, or its low price is above its high one"
+            }
+            Refusal::BadRange { record: None } => {
+                "the outlines with low and high prices have different numbers of records"
             }
             Refusal::Other { number, .. } => {
                 return write!(f, "refusal {number}, which these bindings do not know");

@@ -5,12 +5,12 @@
 //! where a length is 0), each points to as many elements as its length says and is aligned for
 //! them, and what is written overlaps nothing else. Nothing else is asked of the caller, whatever
 //! the outline, the text or the marks hold. A refusal leaves the lent buffers (`marks`, `curve` and
-//! `work` of `plates_choose` and `plates_revise`, the `marks` of `plates_quick`, the `outline` of
-//! `plates_read`, the `text` and `pairs` of `plates_write`, the `sheet` of `plates_sheet`, the `view`
-//! of `plates_view_house` and `plates_view_buyer`, the `form` of `plates_house_form`, and both forms
-//! of `plates_compare`) as they were; `answer`, `place`, `ceiling`, `moved` and `order` carry the
-//! numbers given and are written in any case. Every number but 0 is a refusal, and later versions
-//! add some.
+//! `work` of `plates_choose`, `plates_revise` and `plates_range`, the `marks` of `plates_quick`, the
+//! `outline` of `plates_read`, the `text` and `pairs` of `plates_write`, the `sheet` of
+//! `plates_sheet`, the `view` of `plates_view_house` and `plates_view_buyer`, the `form` of
+//! `plates_house_form`, and both forms of `plates_compare`) as they were; `answer`, `place`,
+//! `ceiling`, `moved`, `roof` and `order` carry the numbers given and are written in any case. Every
+//! number but 0 is a refusal, and later versions add some.
 //!
 //! ```
 //! use plates::sys;
@@ -175,6 +175,34 @@ extern "C" {
         moved: *mut i64,
     ) -> u32;
 
+    /// Chooses for prices between those of two outlines, `low` and `high`: gives 0 or the refusal's
+    /// number, and in any case writes the six numbers of `answer`, as [`plates_choose`] does for
+    /// `high`, and `roof`, which is 0 on a refusal and else the best diversity of `low`. Unless it
+    /// refuses, it also writes `marks` and `curve`, and leaves `work` cleared.
+    ///
+    /// # Safety
+    ///
+    /// `low` and `high` can be read for `low_len` and `high_len` bytes. `marks`, `curve`, `work`,
+    /// `answer` and `roof` can be written for `marks_len`, `curve_len` and `work_len` elements, 6
+    /// numbers and one. None of the pointers is null, each is aligned for its elements, and none of
+    /// the last five overlaps another or what is read. `low` and `high` may overlap.
+    pub fn plates_range(
+        low: *const u8,
+        low_len: usize,
+        high: *const u8,
+        high_len: usize,
+        count: u32,
+        way: u32,
+        marks: *mut u8,
+        marks_len: usize,
+        curve: *mut u32,
+        curve_len: usize,
+        work: *mut u64,
+        work_len: usize,
+        answer: *mut u32,
+        roof: *mut u32,
+    ) -> u32;
+
     /// Lists the taxa of a marked set, with what each adds: gives 0 or the refusal's number, and in
     /// any case writes the five numbers of `answer` (number, place, rows, quarters, diversity).
     /// Unless it refuses, it also writes the rows to the beginning of `sheet`, three numbers for
@@ -277,20 +305,21 @@ pub const fn written_len(records: usize, taxa: usize) -> usize {
     10 * records + 8 * taxa
 }
 
-/// How many bytes of marks choosing, the quick choice, revising and listing need.
+/// How many bytes of marks choosing, the quick choice, revising, choosing for a range of prices and
+/// listing need.
 #[must_use]
 pub const fn marks_len(records: usize) -> usize {
     records
 }
 
-/// How many numbers of curve choosing and revising need, for a count of at most
-/// [`MOST_COUNT`](crate::MOST_COUNT).
+/// How many numbers of curve choosing, revising and choosing for a range of prices need, for a count
+/// of at most [`MOST_COUNT`](crate::MOST_COUNT).
 #[must_use]
 pub const fn curve_len(count: u32) -> usize {
     2 * (count as usize + 1)
 }
 
-/// How many numbers of work choosing and revising need, for at most
+/// How many numbers of work choosing, revising and choosing for a range of prices need, for at most
 /// [`MOST_RECORDS`](crate::MOST_RECORDS) records and a count of at most
 /// [`MOST_COUNT`](crate::MOST_COUNT).
 #[must_use]

@@ -1,7 +1,7 @@
 //! Tests of the bindings: document 01's cases, headings that take space, locked taxa, the quick
-//! choice, revising a length, the refusals, building trees, reading and writing texts, the sheet,
-//! what a buyer's reader gets, the house form and comparing, and calls that share memory or run at
-//! once.
+//! choice, revising a length, prices not yet agreed, the refusals, building trees, reading and
+//! writing texts, the sheet, what a buyer's reader gets, the house form and comparing, and calls
+//! that share memory or run at once.
 
 mod cases;
 mod choosing;
@@ -10,6 +10,7 @@ mod house;
 mod locks;
 mod outlines;
 mod quick;
+mod range;
 mod refusals;
 mod revise;
 mod sheets;

@@ -177,16 +177,21 @@ fn first_that_holds_is_given() {
 
 #[test]
 fn numbers_and_places() {
-    for number in 1..=16 {
-        let refusal = Refusal::from_parts(number, 7).expect("sixteen refusals");
+    for number in 1..=17 {
+        let refusal = Refusal::from_parts(number, 7).expect("seventeen refusals");
         assert_eq!(refusal.number(), number);
-        let has_place = [5, 6, 8, 13, 14].contains(&number);
+        let has_place = [5, 6, 8, 13, 14, 17].contains(&number);
         assert_eq!(refusal.place(), has_place.then_some(7));
         assert!(!matches!(refusal, Refusal::Other { .. }));
     }
-    let without_place = Refusal::from_parts(14, 0);
-    assert_eq!(without_place, Some(Refusal::BadMarks { record: None }));
-    assert_eq!(without_place.and_then(Refusal::place), None);
+    let without_place = [
+        (14, Refusal::BadMarks { record: None }),
+        (17, Refusal::BadRange { record: None }),
+    ];
+    for (number, refusal) in without_place {
+        assert_eq!(Refusal::from_parts(number, 0), Some(refusal));
+        assert_eq!((refusal.number(), refusal.place()), (number, None));
+    }
     for place in [0, 7] {
         assert_eq!(Refusal::from_parts(0, place), None);
     }
@@ -247,6 +252,17 @@ fn refusals_are_errors_with_a_sentence() {
     assert_eq!(
         revision,
         "there is no record of the number to revise, or its new length is above 1000000"
+    );
+    let record = Refusal::BadRange { record: Some(2) }.to_string();
+    assert_eq!(
+        record,
+        "record 2: it differs in something else than its price, or its low price is above its \
+         high one"
+    );
+    let records = Refusal::BadRange { record: None }.to_string();
+    assert_eq!(
+        records,
+        "the outlines with low and high prices have different numbers of records"
     );
     let later = |place| Refusal::from_parts(4_000, place).map(|refusal| refusal.to_string());
     let sentence = "refusal 4000, which these bindings do not know";

@@ -2,7 +2,7 @@
 //! revised outline, the refusals, and the buffers.
 
 use crate::support::{bytes, chain, changed, faulty, fields_of, headed_a, held, locked_a};
-use crate::support::{outline, outlines, plates, sound, star, star_records, tree_a};
+use crate::support::{outline, outlines, plates, room, samples, sound, star, star_records, tree_a};
 use crate::support::{Buffers, Draw, LOCK, TREE_A, WAYS};
 use plates::{choose_in, sys, Choice, Outline, Refusal, Revision, Tree, Way, Work};
 use plates::{MOST_COUNT, MOST_RECORDS};
@@ -35,18 +35,6 @@ fn with(tree: &Outline, [record, length]: [u32; 2]) -> Outline {
     let mut records = fields_of(tree);
     records[record as usize - 1][2] = length;
     outline(&records)
-}
-
-/// Taxa under one root that are much alike, so that another may well take the place of one.
-fn alike(draw: &mut Draw) -> Outline {
-    let taxa = [0; 6].map(|_| (4 + draw.below(4), 1 + draw.below(2)));
-    sound(star(&taxa))
-}
-
-/// The outlines that several tests use, and drawn ones, with headings and locks among them.
-fn samples(draw: &mut Draw) -> Vec<Outline> {
-    let drawn = (0..40).flat_map(|_| [draw.outline(8), alike(draw)]);
-    outlines().into_iter().chain(drawn).collect()
 }
 
 /// Some changes of an outline: records with new lengths, small and large ones.
@@ -491,13 +479,6 @@ impl Buffers {
         assert_eq!(outline, given);
         (answer, moved)
     }
-}
-
-/// Buffers for so many records and a count, each longer by so many elements.
-fn room(records: usize, count: u32, more: usize) -> Buffers {
-    let curve = sys::curve_len(count) + more;
-    let work = sys::work_len(records, count) + more;
-    Buffers::new(sys::marks_len(records) + more, curve, work)
 }
 
 /// Number and place of a call that is refused, which leaves its buffers as they were and gives no

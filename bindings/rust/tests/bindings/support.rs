@@ -217,6 +217,18 @@ impl Draw {
     }
 }
 
+/// Taxa under one root that are much alike, so that another may well take the place of one.
+fn alike(draw: &mut Draw) -> Outline {
+    let taxa = [0; 6].map(|_| (4 + draw.below(4), 1 + draw.below(2)));
+    sound(star(&taxa))
+}
+
+/// The outlines that several tests use, and drawn ones, with headings and locks among them.
+pub fn samples(draw: &mut Draw) -> Vec<Outline> {
+    let drawn = (0..40).flat_map(|_| [draw.outline(8), alike(draw)]);
+    outlines().into_iter().chain(drawn).collect()
+}
+
 /// How many of the taxa a record is, or has below it.
 pub fn held(outline: &Outline, taxa: &[Record], record: Record) -> usize {
     let members = successors(outline.record(record.first), |m| outline.record(m.next));
@@ -298,4 +310,11 @@ impl Buffers {
     pub fn is_untouched(&self) -> bool {
         *self == Buffers::new(self.marks.len(), self.curve.len(), self.work.len())
     }
+}
+
+/// Buffers for so many records and a count, each longer by so many elements.
+pub fn room(records: usize, count: u32, more: usize) -> Buffers {
+    let curve = sys::curve_len(count) + more;
+    let work = sys::work_len(records, count) + more;
+    Buffers::new(sys::marks_len(records) + more, curve, work)
 }
