@@ -1,9 +1,9 @@
 //! Measures `plates_choose` beside clearing `work`, IQ-TREE 2, GLPK and two tables in Rust, `plates_read`, `plates_write`,
 //! `plates_sheet` and both views beside a plain reader, writer, lister and viewer in Rust, `plates_quick` beside a plain picker and
-//! `plates_choose`, `plates_house_form` and `plates_compare` beside a plain sorter, and `plates_revise` beside a plain reviser and
-//! `plates_choose`, and prints the times in Markdown. With `--picks` it measures only the quick choices, with `--houses` only the
-//! house forms, with `--revisions` only the revised lengths, and with `--beside` `plates_choose` beside another build's instead, to
-//! see what a change costs.
+//! `plates_choose`, `plates_house_form` and `plates_compare` beside a plain sorter, and `plates_revise` and `plates_range` beside a
+//! plain reviser, a plain ranger and `plates_choose`, and prints the times in Markdown. With `--picks` it measures only the quick
+//! choices, with `--houses` only the house forms, with `--revisions` only the revised lengths, with `--ranges` only the choices for
+//! prices not yet agreed, and with `--beside` `plates_choose` beside another build's instead, to see what a change costs.
 
 mod beside;
 mod case;
@@ -13,9 +13,12 @@ mod iqtree;
 mod lister;
 mod listing;
 mod machine;
+mod one_choice;
 mod picker;
 mod picking;
 mod plain;
+mod ranger;
+mod ranging;
 mod reader;
 mod reading;
 mod report;
@@ -36,6 +39,7 @@ use case::{Buffers, Case};
 use instances::COUNT;
 use listing::Listing;
 use picking::Picking;
+use ranging::Ranging;
 use reading::Reading;
 use report::Missing;
 use revising::Revising;
@@ -47,11 +51,12 @@ use viewing::Viewing;
 use writing::Writing;
 
 const USAGE: &str = "\
-bench [--quick | --picks | --houses | --revisions | --beside OTHER THIS]
+bench [--quick | --picks | --houses | --revisions | --ranges | --beside OTHER THIS]
   --quick              fewer runs, without GLPK and the tables
   --picks              only plates_quick beside a plain picker and plates_choose
   --houses             only plates_house_form and plates_compare beside a plain sorter
   --revisions          only plates_revise beside a plain reviser and plates_choose
+  --ranges             only plates_range beside a plain ranger and plates_choose
   --beside OTHER THIS  only plates_choose of two builds, OTHER and THIS being shared objects;
                        `make bench-beside BESIDE=libplates.a` makes them of static libraries and runs this";
 const RECORDS: usize = 127;
@@ -73,6 +78,16 @@ impl Plan {
             quick,
         }
     }
+
+    /// Fewer rounds for the revisings and the rangings, since a call of each takes as long as five choices. They see to their calls by
+    /// themselves.
+    fn beside_one_choice(&self) -> Plan {
+        Plan {
+            rounds: (self.rounds / 4).max(1),
+            calls: 1,
+            ..*self
+        }
+    }
 }
 
 fn main() -> ExitCode {
@@ -83,6 +98,7 @@ fn main() -> ExitCode {
         ["--picks"] => run_picks(&Plan::new(false)),
         ["--houses"] => run_houses(&Plan::new(false)),
         ["--revisions"] => run_revisions(&Plan::new(false)),
+        ["--ranges"] => run_ranges(&Plan::new(false)),
         ["--beside", other, this] => run_beside(Path::new(other), Path::new(this)),
         _ => {
             eprintln!("{USAGE}");
@@ -108,6 +124,7 @@ fn run(plan: &Plan) -> Result<(), String> {
     let (pickings, picked) = pickings(plan, &mut buffers)?;
     let (sortings, sorted) = sortings(plan)?;
     let (revisings, revised) = revisings(plan, &mut buffers)?;
+    let (rangings, ranged) = rangings(plan, &mut buffers)?;
     let mut groups = groups();
     let mut sizes = size_cases();
     let all = groups.iter_mut().flatten().chain(&mut sizes);
@@ -130,6 +147,7 @@ fn run(plan: &Plan) -> Result<(), String> {
     report::pickings(&pickings, &picked);
     report::sortings(&sortings, &sorted);
     report::revisings(&revisings, &revised);
+    report::rangings(&rangings, &ranged);
     Ok(())
 }
 
@@ -151,6 +169,13 @@ fn run_revisions(plan: &Plan) -> Result<(), String> {
     println!("Machine: {}\n", machine::description());
     let (revisings, revised) = revisings(plan, &mut Buffers::new(RECORDS, COUNT))?;
     report::revisings(&revisings, &revised);
+    Ok(())
+}
+
+fn run_ranges(plan: &Plan) -> Result<(), String> {
+    println!("Machine: {}\n", machine::description());
+    let (rangings, ranged) = rangings(plan, &mut Buffers::new(RECORDS, COUNT))?;
+    report::rangings(&rangings, &ranged);
     Ok(())
 }
 
@@ -229,24 +254,34 @@ fn sortings(plan: &Plan) -> Result<(Vec<Sorting>, sorting::Agreement), String> {
     Ok((measured(plan, all, Sorting::measure), agreement))
 }
 
-/// The revisings with their times, and what was compared before. They have fewer rounds, since a call of each takes as long as five
-/// choices, and see to their calls by themselves.
+/// The revisings with their times, and what was compared before.
 fn revisings(
     plan: &Plan,
     buffers: &mut Buffers,
 ) -> Result<(Vec<Revising>, revising::Agreement), String> {
     let all = revising::all();
     let agreement = revising::agreement(&all)?;
-    let plan = &Plan {
-        rounds: (plan.rounds / 4).max(1),
-        calls: 1,
-        ..*plan
-    };
-    let all = measured(plan, all, |revising| revising.measure(buffers));
+    let all = measured(&plan.beside_one_choice(), all, |revising| {
+        revising.measure(buffers)
+    });
     Ok((all, agreement))
 }
 
-/// The readings, the writings, the listings, the viewings, the pickings, the sortings or the revisings, with their times.
+/// The rangings with their times, and what was compared before.
+fn rangings(
+    plan: &Plan,
+    buffers: &mut Buffers,
+) -> Result<(Vec<Ranging>, ranging::Agreement), String> {
+    let all = ranging::all();
+    let agreement = ranging::agreement(&all)?;
+    let all = measured(&plan.beside_one_choice(), all, |ranging| {
+        ranging.measure(buffers)
+    });
+    Ok((all, agreement))
+}
+
+/// The readings, the writings, the listings, the viewings, the pickings, the sortings, the revisings or the rangings, with their
+/// times.
 fn measured<T>(plan: &Plan, mut all: Vec<T>, mut measure: impl FnMut(&mut T)) -> Vec<T> {
     for _ in 0..plan.rounds {
         for one in &mut all {

@@ -4,7 +4,9 @@ use crate::beside::Pair;
 use crate::case::Case;
 use crate::glpk;
 use crate::listing::{self, Listing};
+use crate::one_choice::{self, Beside};
 use crate::picking::{self, Picking};
+use crate::ranging::{self, Ranging};
 use crate::reading::{self, Reading};
 use crate::revising::{self, Revising};
 use crate::sorting::{self, Sorting};
@@ -101,6 +103,14 @@ without `plates_revise` would write: `plates_choose`, a copy of the outline with
 in turn on the same buffers, after answers, movements, marks, curves and work were compared. The outlines are those of the first table,
 smaller ones and tree A. The record is by turns a taxon, a group and the root, and its branch by turns about twice and half as long;
 at the end random 1 is revised in one of these ways at a time.
+";
+
+const RANGING: &str = "\
+Microseconds. range is `plates_range`, choose one call of `plates_choose` at high prices. The plain ranger is what a caller without
+`plates_range` would write: it compares the outlines and calls `plates_choose` at low prices and then at high ones. All are called in
+turn on the same buffers, after answers, roofs, marks, curves and work were compared. The outlines are those of the first table,
+smaller ones and tree A, at low prices; the high ones are up to half as much again, those of headings too. At the end random 1 has
+other high prices: the same, one that is higher by 1, and twice as much.
 ";
 
 const BUILDS: &str = "\
@@ -526,76 +536,83 @@ fn sorting_row(sorting: &Sorting) -> Vec<String> {
     row
 }
 
-type Ratio = fn(&Revising) -> Option<f64>;
-
-/// How many times as long as one choice a call takes, by its name.
-const BESIDE_ONE_CHOICE: [(&str, Ratio); 4] = [
-    ("revise / choose, shortest", |revising| {
-        Some(revising.plates.shortest()? / revising.choosing.shortest()?)
-    }),
-    ("revise / choose, medians", |revising| {
-        Some(revising.plates.median()? / revising.choosing.median()?)
-    }),
-    ("plain / choose, shortest", |revising| {
-        Some(revising.plain.shortest()? / revising.choosing.shortest()?)
-    }),
-    ("plain / choose, medians", |revising| {
-        Some(revising.plain.median()? / revising.choosing.median()?)
-    }),
-];
-
 pub fn revisings(revisings: &[Revising], agreement: &revising::Agreement) {
     println!("### Revised lengths\n\n{REVISING}");
-    let mut head = words([
-        "outline",
-        "records",
-        "way",
-        "count",
-        "choose shortest",
-        "choose median",
-        "revise shortest",
-        "revise median",
-        "plain shortest",
-        "plain median",
-    ]);
-    head.extend(words(BESIDE_ONE_CHOICE.map(|(name, _)| name)));
-    let rows: Vec<_> = revisings.iter().map(revising_row).collect();
-    print_table(&head, &rows);
-    revising_ranges(revisings);
+    let calls: Vec<&Beside> = revisings.iter().map(|revising| &revising.times).collect();
+    beside_one_choice("revise", &calls);
     print_agreement("plain reviser", [agreement.answers, 0]);
     let [fell, stayed, rose] = agreement.movements;
     println!("Best diversities that fell: {fell}, stayed: {stayed}, rose: {rose}.\n");
-    greatest_revisings(revisings);
+    greatest_beside("revise", &calls);
 }
 
-fn revising_row(revising: &Revising) -> Vec<String> {
+pub fn rangings(rangings: &[Ranging], agreement: &ranging::Agreement) {
+    println!("### Prices not yet agreed\n\n{RANGING}");
+    let calls: Vec<&Beside> = rangings.iter().map(|ranging| &ranging.times).collect();
+    beside_one_choice("range", &calls);
+    print_agreement("plain ranger", [agreement.answers, 0]);
+    let [at_roof, below] = agreement.floors;
+    println!("Floors that were the roof: {at_roof}, were below it: {below}.\n");
+    greatest_beside("range", &calls);
+}
+
+type Ratio = fn(&Beside) -> Option<f64>;
+
+/// How many times as long as one choice a call takes, by shortest times and by medians: that of plates, and the plain one.
+const RATIOS: [Ratio; 4] = [
+    |calls| Some(calls.plates.shortest()? / calls.choosing.shortest()?),
+    |calls| Some(calls.plates.median()? / calls.choosing.median()?),
+    |calls| Some(calls.plain.shortest()? / calls.choosing.shortest()?),
+    |calls| Some(calls.plain.median()? / calls.choosing.median()?),
+];
+
+/// Their names, with that of the call of plates.
+fn ratio_names(call: &str) -> [String; 4] {
+    let names = [call, "plain"]
+        .map(|name| ["shortest", "medians"].map(|which| format!("{name} / choose, {which}")));
+    let [[one, two], [three, four]] = names;
+    [one, two, three, four]
+}
+
+fn beside_one_choice(call: &str, calls: &[&Beside]) {
+    let mut head = words(["outline", "records", "way", "count"]);
+    for name in ["choose", call, "plain"] {
+        head.extend(["shortest", "median"].map(|which| format!("{name} {which}")));
+    }
+    head.extend(ratio_names(call));
+    let rows: Vec<_> = calls.iter().map(|calls| beside_row(calls)).collect();
+    print_table(&head, &rows);
+    ranges_of_ratios(call, calls);
+}
+
+fn beside_row(calls: &Beside) -> Vec<String> {
     let mut row = vec![
-        revising.name.clone(),
-        revising.records.to_string(),
-        way(revising.way),
-        revising.count.to_string(),
+        calls.name.clone(),
+        calls.records.to_string(),
+        way(calls.way),
+        calls.count.to_string(),
     ];
-    for times in [&revising.choosing, &revising.plates, &revising.plain] {
+    for times in [&calls.choosing, &calls.plates, &calls.plain] {
         let times = [times.shortest(), times.median()];
         row.extend(times.map(|time| time.map_or(String::new(), microseconds)));
     }
-    let ratios = BESIDE_ONE_CHOICE.map(|(_, ratio)| ratio(revising));
+    let ratios = RATIOS.map(|ratio| ratio(calls));
     row.extend(ratios.map(|ratio| ratio.map_or(String::new(), digits)));
     row
 }
 
 /// The least and the greatest ratios of each way, by growing count. A row has the counts above the one before.
-fn revising_ranges(revisings: &[Revising]) {
+fn ranges_of_ratios(call: &str, calls: &[&Beside]) {
     let mut head = words(["counts up to", "way"]);
-    head.extend(words(BESIDE_ONE_CHOICE.map(|(name, _)| name)));
+    head.extend(ratio_names(call));
     let mut rows = Vec::new();
     let mut from = 0;
-    for to in revising::COUNTS {
+    for to in one_choice::COUNTS {
         for number in 0..2 {
-            let mut of_row: Vec<&Revising> = revisings.iter().collect();
+            let mut of_row = calls.to_vec();
             of_row.retain(|it| it.way == number && (from..=to).contains(&it.count));
             let mut row = vec![to.to_string(), way(number)];
-            row.extend(BESIDE_ONE_CHOICE.map(|(_, ratio)| range(&of_row, ratio)));
+            row.extend(RATIOS.map(|ratio| least_to_greatest(&of_row, ratio)));
             rows.push(row);
         }
         from = to + 1;
@@ -603,16 +620,16 @@ fn revising_ranges(revisings: &[Revising]) {
     print_table(&head, &rows);
 }
 
-fn range(revisings: &[&Revising], ratio: Ratio) -> String {
-    let ratios = || revisings.iter().filter_map(|revising| ratio(revising));
+fn least_to_greatest(calls: &[&Beside], ratio: Ratio) -> String {
+    let ratios = || calls.iter().filter_map(|calls| ratio(calls));
     let ends = [f64::min, f64::max].map(|end| ratios().reduce(end));
     ends.map(|end| end.map_or(String::new(), digits))
         .join(" to ")
 }
 
-fn greatest_revisings(revisings: &[Revising]) {
-    for (name, ratio) in BESIDE_ONE_CHOICE {
-        let ratios = revisings.iter().filter_map(|it| Some((ratio(it)?, it)));
+fn greatest_beside(call: &str, calls: &[&Beside]) {
+    for (name, ratio) in ratio_names(call).iter().zip(RATIOS) {
+        let ratios = calls.iter().filter_map(|it| Some((ratio(it)?, it)));
         if let Some((greatest, at)) = ratios.max_by(|(one, _), (other, _)| one.total_cmp(other)) {
             println!(
                 "Greatest {name}: {} ({}, {}, count {}).",

@@ -1,24 +1,16 @@
 //! Outlines of which one length is revised by `plates_revise` and by the plain reviser, beside one call of `plates_choose`.
 
 use crate::case::Buffers;
-use crate::instances::{shapes_at_full_size, sizes, Instance, COUNT, TAXA};
+use crate::instances::{shapes_at_full_size, Instance, COUNT};
+use crate::one_choice::{for_each_case, Beside, Lent, Outcome};
 use crate::reviser::{self, Revised, Revision};
-use crate::times::{timed, Times};
-use plates_scale::call::{needed, Call};
-use plates_scale::cases::tree_a;
+use plates_scale::call::Call;
 use plates_scale::damage::damaged_call;
+use plates_scale::locks;
 use plates_scale::outline::{bytes, groups, records, taxa, Record, ROOTED, UNROOTED};
 use plates_scale::random::Random;
 use plates_scale::view_pairs::sound_outline;
-use plates_scale::{library, locks};
 use std::hint::black_box;
-
-/// At small counts what is done once for each call tells.
-pub const COUNTS: [u32; 6] = [0, 16, 64, 256, 1_024, COUNT];
-/// Calls of each in a round go over about so many cells, a record's column being one: those at small counts are many.
-const CELLS: usize = 600_000;
-const LEAST_CALLS: usize = 2;
-const MOST_CALLS: usize = 10;
 
 extern "C" {
     fn plates_revise(
@@ -73,28 +65,9 @@ fn revise(
 
 type Revise = fn(&[u8], Revision, u32, u32, &mut [u8], &mut [u32], &mut [u64]) -> Revised;
 
-/// What a program makes of a call: its answer, and the buffers after it.
-#[derive(Default, PartialEq)]
-struct Outcome {
-    revised: Revised,
-    marks: Vec<u8>,
-    curve: Vec<u32>,
-    work: Vec<u64>,
-}
-
-impl Outcome {
-    /// In the same memory: `work` may be 17 MB.
-    fn renew(&mut self, call: &Call, revision: Revision, revise: Revise) {
-        let Outcome {
-            revised,
-            marks,
-            curve,
-            work,
-        } = self;
-        fill(marks, call.marks, 0xa5);
-        fill(curve, call.curve, 0xa5a5_a5a5);
-        fill(work, call.work, 0xa5a5_a5a5_a5a5_a5a5);
-        *revised = revise(
+fn renew(outcome: &mut Outcome<Revised>, call: &Call, revision: Revision, revise: Revise) {
+    outcome.renew(call, |(marks, curve, work)| {
+        revise(
             &call.outline,
             revision,
             call.count,
@@ -102,24 +75,13 @@ impl Outcome {
             marks,
             curve,
             work,
-        );
-    }
-}
-
-fn fill<T: Copy>(buffer: &mut Vec<T>, len: usize, value: T) {
-    buffer.clear();
-    buffer.resize(len, value);
+        )
+    });
 }
 
 pub struct Revising {
-    pub name: String,
-    pub records: usize,
-    pub way: u32,
-    pub count: u32,
-    /// `plates_choose` on the given outline.
-    pub choosing: Times,
-    pub plates: Times,
-    pub plain: Times,
+    /// One choice is that on the given outline.
+    pub times: Beside,
     outline: Vec<u8>,
     /// Each call is for the next of these.
     revisions: Vec<Revision>,
@@ -128,13 +90,7 @@ pub struct Revising {
 impl Revising {
     fn new(instance: &Instance, way: u32, count: u32) -> Self {
         Revising {
-            name: instance.name.clone(),
-            records: instance.records.len(),
-            way,
-            count,
-            choosing: Times::default(),
-            plates: Times::default(),
-            plain: Times::default(),
+            times: Beside::new(instance, way, count),
             outline: bytes(&instance.records),
             revisions: revisions(&instance.records)
                 .map(|(_, revision)| revision)
@@ -143,46 +99,20 @@ impl Revising {
     }
 
     fn call(&self) -> Call {
-        let [marks, curve, work] = needed(self.records, self.count);
-        Call {
-            outline: self.outline.clone(),
-            count: self.count,
-            way: self.way,
-            marks,
-            curve,
-            work,
-        }
+        self.times.call(&self.outline)
     }
 
-    fn calls(&self) -> usize {
-        let cells = self.records * (self.count as usize + 1);
-        (CELLS / cells).clamp(LEAST_CALLS, MOST_CALLS)
-    }
-
-    /// Calls of each, in turn. One that is not timed comes first, so that all find the caches alike.
     pub fn measure(&mut self, buffers: &mut Buffers) {
-        let (marks, curve, work) = buffers.needed(self.records, self.count);
-        library::choose(&self.outline, self.count, self.way, marks, curve, work);
-        (0..self.calls()).for_each(|_| self.measure_once(buffers));
-    }
-
-    fn measure_once(&mut self, buffers: &mut Buffers) {
-        let outline = black_box(&self.outline[..]);
-        let revision = self.revisions[self.plates.len() % self.revisions.len()];
-        let (count, way) = (self.count, self.way);
-        let (marks, curve, work) = buffers.needed(self.records, count);
-        let (answer, seconds) = timed(|| library::choose(outline, count, way, marks, curve, work));
-        black_box(answer);
-        self.choosing.add(seconds);
-        for (revise, times) in [
-            (revise as Revise, &mut self.plates),
-            (reviser::revise, &mut self.plain),
-        ] {
-            let (answer, seconds) =
-                timed(|| revise(outline, revision, count, way, marks, curve, work));
-            black_box(answer);
-            times.add(seconds);
-        }
+        let (outline, revisions) = (&self.outline[..], &self.revisions);
+        let (count, way) = (self.times.count, self.times.way);
+        let by = |revise: Revise| {
+            move |turn: usize, (marks, curve, work): Lent| {
+                let revision = revisions[turn % revisions.len()];
+                revise(black_box(outline), revision, count, way, marks, curve, work)
+            }
+        };
+        self.times
+            .measure(outline, buffers, by(revise), by(reviser::revise));
     }
 }
 
@@ -207,41 +137,22 @@ fn revision(position: usize, length: u32) -> Revision {
     Revision { record, length }
 }
 
-/// Every shape, both ways, by growing count; smaller trees at the largest count; tree A; and the first shape once more with each
-/// revision by itself.
+/// The cases, and the first shape once more with each revision by itself.
 pub fn all() -> Vec<Revising> {
     let mut revisings = Vec::new();
-    let mut add = |instance: &Instance, count: u32| {
-        revisings.extend([ROOTED, UNROOTED].map(|way| Revising::new(instance, way, count)));
-    };
-    let shapes = shapes_at_full_size();
-    for instance in &shapes {
-        for count in COUNTS {
-            add(instance, count.min(instance.count));
-        }
-    }
-    let mut smaller = sizes();
-    smaller.retain(|instance| taxa(&instance.records).len() < TAXA);
-    for instance in &smaller {
-        add(instance, COUNT);
-    }
-    let tree_a = Instance {
-        name: "tree A".to_string(),
-        records: tree_a(),
-        count: 5,
-    };
-    add(&tree_a, tree_a.count);
-    revisings.extend(one_by_one(&shapes[0]));
+    for_each_case(|instance, way, count| revisings.push(Revising::new(instance, way, count)));
+    revisings.extend(one_by_one(&shapes_at_full_size()[0]));
     revisings
 }
 
 fn one_by_one(instance: &Instance) -> impl Iterator<Item = Revising> + '_ {
     let ways = [ROOTED, UNROOTED].into_iter();
     ways.flat_map(|way| {
-        revisions(&instance.records).map(|(which, revision)| Revising {
-            name: format!("{}, {which}", instance.name),
-            revisions: vec![revision],
-            ..Revising::new(instance, way, 64)
+        revisions(&instance.records).map(|(which, revision)| {
+            let mut revising = Revising::new(instance, way, 64);
+            revising.times.name = format!("{}, {which}", instance.name);
+            revising.revisions = vec![revision];
+            revising
         })
     })
 }
@@ -279,18 +190,18 @@ impl Agreement {
         &mut self,
         call: &Call,
         revision: Revision,
-        [ours, theirs]: &mut [Outcome; 2],
+        [ours, theirs]: &mut [Outcome<Revised>; 2],
     ) -> Result<(), String> {
-        ours.renew(call, revision, revise);
-        theirs.renew(call, revision, reviser::revise);
+        renew(ours, call, revision, revise);
+        renew(theirs, call, revision, reviser::revise);
         if ours != theirs {
             return Err(format!(
                 "plates_revise gives {:?}, the plain reviser {:?}, or the buffers differ: {revision:?}, {call:?}",
-                ours.revised, theirs.revised
+                ours.answer, theirs.answer
             ));
         }
         self.answers += 1;
-        let ([number, ..], [of_best, _]) = ours.revised;
+        let ([number, ..], [of_best, _]) = ours.answer;
         if number == 0 {
             self.movements[(of_best.signum() + 1) as usize] += 1;
         }
@@ -344,11 +255,11 @@ fn some_revision(records: &[Record], random: &mut Random) -> Revision {
 #[cfg(test)]
 mod tests {
     use super::*;
-    use crate::RECORDS;
+    use crate::instances::sizes;
 
-    fn outcome(call: &Call, revision: Revision, revise: Revise) -> Outcome {
+    fn outcome(call: &Call, revision: Revision, revise: Revise) -> Outcome<Revised> {
         let mut outcome = Outcome::default();
-        outcome.renew(call, revision, revise);
+        renew(&mut outcome, call, revision, revise);
         outcome
     }
 
@@ -361,36 +272,17 @@ mod tests {
     }
 
     #[test]
-    fn a_difference_in_any_part_is_noticed() {
+    fn a_difference_in_a_movement_is_noticed() {
         let call = Revising::new(&shapes_at_full_size()[0], ROOTED, 64).call();
-        let wrong: [Revise; 4] = [
-            |outline, revision, count, way, marks, curve, work| {
-                let (answer, [best, length]) =
-                    revise(outline, revision, count, way, marks, curve, work);
-                (answer, [best, -length])
-            },
-            |outline, revision, count, way, marks, curve, work| {
-                let revised = revise(outline, revision, count, way, marks, curve, work);
-                marks[126] ^= 1;
-                revised
-            },
-            |outline, revision, count, way, marks, curve, work| {
-                let revised = revise(outline, revision, count, way, marks, curve, work);
-                curve[129] += 1;
-                revised
-            },
-            |outline, revision, count, way, marks, curve, work| {
-                let revised = revise(outline, revision, count, way, marks, curve, work);
-                work[33_539] += 1;
-                revised
-            },
-        ];
         let revision = revision(126, 500);
         let right = outcome(&call, revision, revise);
         assert!(right == outcome(&call, revision, reviser::revise));
-        for wrong in wrong {
-            assert!(right != outcome(&call, revision, wrong));
-        }
+        let turned: Revise = |outline, revision, count, way, marks, curve, work| {
+            let (answer, [best, length]) =
+                revise(outline, revision, count, way, marks, curve, work);
+            (answer, [best, -length])
+        };
+        assert!(right != outcome(&call, revision, turned));
     }
 
     #[test]
@@ -400,7 +292,7 @@ mod tests {
         for _ in 0..3_000 {
             let calls = [sound_revising(random), some_revising(random)];
             for (numbers, (call, revision)) in numbers.iter_mut().zip(calls) {
-                let ([number, ..], _) = outcome(&call, revision, revise).revised;
+                let ([number, ..], _) = outcome(&call, revision, revise).answer;
                 numbers[number as usize] += 1;
             }
         }
@@ -423,17 +315,6 @@ mod tests {
                 assert_eq!(old.is_taxon(), at < 2, "{}", instance.name);
                 assert!(record == 1 || at < 4, "{}", instance.name);
             }
-        }
-    }
-
-    #[test]
-    fn a_round_has_as_many_calls_of_each_and_fewer_of_long_ones() {
-        let mut buffers = Buffers::new(RECORDS, COUNT);
-        for (count, calls) in [(0, 10), (256, 10), (1_024, 4), (4_096, 2)] {
-            let mut revising = Revising::new(&shapes_at_full_size()[0], ROOTED, count);
-            revising.measure(&mut buffers);
-            let times = [&revising.choosing, &revising.plates, &revising.plain];
-            assert_eq!(times.map(Times::len), [calls; 3]);
         }
     }
 }
