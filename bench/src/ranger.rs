@@ -5,7 +5,7 @@ use crate::one_choice::Lent;
 use plates_scale::call::needed;
 use plates_scale::library::{check, choose};
 use plates_scale::locks;
-use plates_scale::outline::{records, Record, RECORD_BYTES, UNROOTED};
+use plates_scale::outline::{records, RECORD_BYTES, UNROOTED};
 
 const MOST_COUNT: u32 = 4_096;
 const MOST_PRICE: u32 = 65_535;
@@ -68,7 +68,7 @@ fn refusal(outlines: Outlines, count: u32, way: u32, lent: [usize; 3]) -> Option
     if count > MOST_COUNT {
         return Some([COUNT_TOO_LARGE, 0]);
     }
-    let records: Vec<Record> = records(high);
+    let records = records(high);
     let needed = needed(records.len(), count);
     if lent.iter().zip(needed).any(|(&lent, needed)| lent < needed) {
         return Some([BUFFER_TOO_SHORT, 0]);
@@ -98,7 +98,7 @@ fn price(record: &[u8]) -> u32 {
 mod tests {
     use super::*;
     use plates_scale::cases::tree_a;
-    use plates_scale::outline::{bytes, LOCK, ROOTED};
+    use plates_scale::outline::{bytes, Record, LOCK, ROOTED};
 
     /// Tree A with other prices of its taxa.
     fn priced(prices: [u32; 3]) -> Vec<Record> {

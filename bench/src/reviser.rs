@@ -1,6 +1,7 @@
 //! A plain reviser: two calls of `plates_choose`, and between them a copy of the outline with the new length. It does what
 //! `plates_revise` does, with the same refusals.
 
+use crate::one_choice::Lent;
 use plates_scale::library::choose;
 use plates_scale::outline::RECORD_BYTES;
 use std::ops::Range;
@@ -37,9 +38,7 @@ pub fn revise(
     revision: Revision,
     count: u32,
     way: u32,
-    marks: &mut [u8],
-    curve: &mut [u32],
-    work: &mut [u64],
+    (marks, curve, work): Lent,
 ) -> Revised {
     if revision.is_bad(outline) {
         // Without marks nothing is chosen or written, and the refusals up to 8 come first.
@@ -80,9 +79,8 @@ mod tests {
         let [marks, curve, work] = needed(5, 5);
         let (mut marks, mut curve, mut work) = (vec![9; marks], vec![9; curve], vec![9; work]);
         let outline = bytes(&tree_a());
-        let revised = revise(
-            &outline, revision, 5, way, &mut marks, &mut curve, &mut work,
-        );
+        let lent = (&mut marks[..], &mut curve[..], &mut work[..]);
+        let revised = revise(&outline, revision, 5, way, lent);
         assert!(work.iter().all(|&number| number == 0));
         (revised, marks, curve)
     }
@@ -112,9 +110,8 @@ mod tests {
         let refused = |outline: &[u8], [record, length]: [u32; 2], count, way, room| {
             let revision = Revision { record, length };
             let (mut marks, mut curve, mut work) = (vec![9; room], vec![9; 12], vec![9; 168]);
-            let ([number, place, rest @ ..], moved) = revise(
-                outline, revision, count, way, &mut marks, &mut curve, &mut work,
-            );
+            let lent = (&mut marks[..], &mut curve[..], &mut work[..]);
+            let ([number, place, rest @ ..], moved) = revise(outline, revision, count, way, lent);
             assert_eq!((rest, moved), ([0; 4], [0; 2]));
             assert!(marks.iter().all(|&mark| mark == 9) && curve.iter().all(|&number| number == 9));
             assert!(work.iter().all(|&number| number == 9));

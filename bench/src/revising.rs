@@ -36,9 +36,7 @@ fn revise(
     revision: Revision,
     count: u32,
     way: u32,
-    marks: &mut [u8],
-    curve: &mut [u32],
-    work: &mut [u64],
+    (marks, curve, work): Lent,
 ) -> Revised {
     let (mut answer, mut moved) = ([0; 6], [0; 2]);
     // SAFETY: every pointer comes with the length of the slice it was taken from, and what is written overlaps nothing else.
@@ -63,19 +61,11 @@ fn revise(
     (answer, moved)
 }
 
-type Revise = fn(&[u8], Revision, u32, u32, &mut [u8], &mut [u32], &mut [u64]) -> Revised;
+type Revise = fn(&[u8], Revision, u32, u32, Lent) -> Revised;
 
 fn renew(outcome: &mut Outcome<Revised>, call: &Call, revision: Revision, revise: Revise) {
-    outcome.renew(call, |(marks, curve, work)| {
-        revise(
-            &call.outline,
-            revision,
-            call.count,
-            call.way,
-            marks,
-            curve,
-            work,
-        )
+    outcome.renew(call, |lent| {
+        revise(&call.outline, revision, call.count, call.way, lent)
     });
 }
 
@@ -106,9 +96,9 @@ impl Revising {
         let (outline, revisions) = (&self.outline[..], &self.revisions);
         let (count, way) = (self.times.count, self.times.way);
         let by = |revise: Revise| {
-            move |turn: usize, (marks, curve, work): Lent| {
+            move |turn: usize, lent: Lent| {
                 let revision = revisions[turn % revisions.len()];
-                revise(black_box(outline), revision, count, way, marks, curve, work)
+                revise(black_box(outline), revision, count, way, lent)
             }
         };
         self.times
@@ -277,9 +267,8 @@ mod tests {
         let revision = revision(126, 500);
         let right = outcome(&call, revision, revise);
         assert!(right == outcome(&call, revision, reviser::revise));
-        let turned: Revise = |outline, revision, count, way, marks, curve, work| {
-            let (answer, [best, length]) =
-                revise(outline, revision, count, way, marks, curve, work);
+        let turned: Revise = |outline, revision, count, way, lent| {
+            let (answer, [best, length]) = revise(outline, revision, count, way, lent);
             (answer, [best, -length])
         };
         assert!(right != outcome(&call, revision, turned));
