@@ -283,7 +283,8 @@
  * prices and one with the high ones, and tells what can be promised now: a set of taxa that fits the page count whatever is agreed,
  * so that their authors can be told that they are in, and two numbers that the best diversity will lie between. The outlines may
  * differ in prices only, of taxa and of headings, and no low price is above the high price of the same record. A price that is
- * agreed already is the same in both. plates_read makes such outlines of one text with two lists of pairs.
+ * agreed already is the same in both. plates_read makes such outlines of one text with two lists of pairs. Where members or records
+ * stand in another order, the house forms can be handed over (see below): their order does not depend on prices.
  *
  * The set, its numbers and the curve are those that plates_choose gives of the high outline, for the same count and way. The set
  * is the sure set, and its diversity the floor. Beside them *roof is the best diversity of the low outline.
@@ -307,10 +308,10 @@
  * The low and the high outline are between, too. Where floor and roof are equal, the sure set has the best diversity whatever is
  * agreed.
  *
- * What is not promised: once prices are agreed another set may be better than the sure set, and need not have its plates. In the table
- * plate 12 is sure at count 5, and plates 11 and 13 are the best if plate 11 comes to cost 3. Nor need a plate that is sure at one
- * count be so at a larger one: plate 12 is not at count 6. The curve is that of the high prices. So it tells the floor of a smaller
- * count, and neither its roof nor its sure set, for which plates_range is called with that count.
+ * What is not promised: once prices are agreed another set may be better than the sure set, and need not have its plates. In the
+ * table plate 12 is sure at count 5, and plates 11 and 13 are the best if plate 11 comes to cost 3. Nor need a plate that is sure at
+ * one count be so at a larger one: plate 12 is not at count 6. The curve is that of the high prices. So it tells the floor of a
+ * smaller count, and neither its roof nor its sure set, for which plates_range is called with that count.
  *
  *
  * THE SHEET
@@ -594,7 +595,7 @@ enum plates_refusal {
     PLATES_BAD_REVISION = 16,
     /* The low and the high outline have different numbers of records; place 0. Or a byte of the record outside its price differs,
      * the lock included, or its low price is above its high one, be it a taxon or a group; place is the lowest such record. It is
-     * judged after 8 and before 4. */
+     * judged after 8, and 4 after it. */
     PLATES_BAD_RANGE = 17
 };
 

@@ -72,7 +72,8 @@ impl SureChoice {
 impl Outline {
     /// Chooses for prices that are not yet agreed. This outline has the low ones, the other one the
     /// high ones, and they may differ in prices only, those of taxa and of headings. A price that is
-    /// agreed already is the same in both.
+    /// agreed already is the same in both. Where members or records stand in another order, the
+    /// [house forms](Outline::house_form) of both can be taken, whose order does not depend on prices.
     ///
     /// # Errors
     ///

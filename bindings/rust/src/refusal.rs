@@ -6,7 +6,8 @@ use std::fmt;
 /// Why an outline, a text or a call is refused. Where several reasons hold, the first in this order
 /// is given, but for four things: reading a text has an order of its own, which
 /// [`Outline::from_newick`](crate::Outline::from_newick) says, numbers 13, 14 and 16 are judged
-/// before 9, number 15 is judged after 4 and before 5, and number 17 is judged after 8 and before 4.
+/// before 9, number 15 is judged after 4 and before 5, and number 17 is judged after 8, and 4 after
+/// it.
 ///
 /// The library's table of refusals grows: later versions add numbers from 18 on. So a `match` has
 /// an arm for the rest, and a number that these bindings do not know is a refusal all the same, as

@@ -385,6 +385,10 @@ fn links_are_compared() {
         .map(|text| Outline::from_newick(text, [(11, 3), (12, 1), (13, 2)]).unwrap());
     assert!(one.is_same_tree(&other));
     assert_eq!(one.range(&other, 5, Way::Rooted), bad_range(3));
+    // and their house forms are not, whatever the prices
+    let dearer = with_price(&other, 11, 4).house_form();
+    let expected = (vec![12, 13], 3, 2, [10, 12]);
+    assert_eq!(told(&one.house_form(), &dearer, 5, Way::Rooted), expected);
 }
 
 #[test]
