@@ -1,12 +1,9 @@
 //! Prices not yet agreed: the sure set, floor and roof, what is promised of prices between, the
 //! refusals, and the buffers.
 
-use crate::support::{
-    bytes, chain, changed, cost, diversity, faulty, fields_of, headed_a, locked_a,
-};
-use crate::support::{outline, outlines, plates, room, samples, sound, star};
-use crate::support::{star_records, tree_a, Buffers, Draw, Fields};
-use crate::support::{INTERLEAVED, LOCK, TREE_A, WAYS};
+use crate::support::{bytes, chain, changed, cost, diversity, faulty, fields_of, headed_a};
+use crate::support::{locked_a, outline, outlines, plates, room, samples, sound, star};
+use crate::support::{star_records, tree_a, Buffers, Draw, INTERLEAVED, LOCK, TREE_A, WAYS};
 use plates::{choose_in, sys, Outline, Record, Refusal, SureChoice, Tree, Way, Work};
 use plates::{MOST_COUNT, MOST_RECORDS};
 use std::thread;
@@ -658,10 +655,16 @@ fn outlines_are_refused_as_by_the_check_and_the_low_one_first() {
     }
 }
 
+/// Tree A with this price and plate field of its last taxon.
+fn with_last(price: u32, plate_field: u32) -> Vec<u8> {
+    let mut records = TREE_A;
+    records[4][3..].copy_from_slice(&[price, plate_field]);
+    bytes(&records)
+}
+
 #[test]
-fn the_first_that_holds_is_given() {
+fn ways_come_first_and_then_the_check_of_each_outline() {
     // each has wrong what is judged later, too
-    let none = || Buffers::new(0, 0, 0);
     let mut records = star_records(65);
     records[65] = [1, 0, 1, 1, 1];
     let broken = bytes(&records);
@@ -669,42 +672,40 @@ fn the_first_that_holds_is_given() {
     let out_of_range = bytes(&records);
     let mut twins = star_records(65);
     twins[65][4] = 1;
-    let double = bytes(&changed(4, 4, LOCK | 11));
-    // the locked taxon costs 2
-    let locked = changed(5, 4, LOCK | 13);
-    let dearer = |plate_field, price| {
-        let mut records: Vec<Fields> = locked.clone();
-        records[4][3..].copy_from_slice(&[price, plate_field]);
-        bytes(&records)
-    };
-    let locked = bytes(&locked);
     let faults = [
         (out_of_range.repeat(2)[1..].to_vec(), [2, 0]),
         (out_of_range.repeat(2), [3, 0]),
         (out_of_range, [5, 65]),
         (broken, [6, 66]),
         (bytes(&twins), [7, 0]),
-        (double, [8, 4]),
+        (bytes(&changed(4, 4, LOCK | 11)), [8, 4]),
     ];
+    let locked = with_last(2, LOCK | 13);
     for (fault, expected) in &faults {
         for pair in [[fault, &locked], [&locked, fault]] {
             let pair = pair.map(|outline| &outline[..]);
-            assert_eq!(refused(pair, 4_097, 2, none()), [1, 0]);
-            assert_eq!(refused(pair, 4_097, 1, none()), *expected);
+            let judged = |way| refused(pair, 4_097, way, Buffers::new(0, 0, 0));
+            assert_eq!([judged(2), judged(1)], [[1, 0], *expected]);
         }
     }
-    let [unlocked, cheaper] = [dearer(13, 2), dearer(LOCK | 13, 1)];
+}
+
+#[test]
+fn after_the_check_come_the_range_the_count_the_buffers_and_the_locks() {
+    let none = || Buffers::new(0, 0, 0);
+    let low = with_last(2, LOCK | 13);
+    let [unlocked, cheaper] = [with_last(2, 13), with_last(1, LOCK | 13)];
     let one = bytes(&[[0, 0, 1, 1, 1]]);
     for (high, place) in [(unlocked, 5), (cheaper, 5), (one, 0)] {
         for count in [4_097, 0] {
-            assert_eq!(refused([&locked, &high], count, 1, none()), [17, place]);
+            assert_eq!(refused([&low, &high], count, 1, none()), [17, place]);
         }
     }
-    let high = dearer(LOCK | 13, 4);
-    assert_eq!(refused([&locked, &high], 4_097, 1, none()), [4, 0]);
-    assert_eq!(refused([&locked, &high], 3, 1, none()), [9, 0]);
-    assert_eq!(refused([&locked, &high], 3, 1, room(5, 3, 0)), [12, 0]);
-    let told = room(5, 4, 0).range(&locked, &high, 4, 0);
+    let high = with_last(4, LOCK | 13);
+    assert_eq!(refused([&low, &high], 4_097, 1, none()), [4, 0]);
+    assert_eq!(refused([&low, &high], 3, 1, none()), [9, 0]);
+    assert_eq!(refused([&low, &high], 3, 1, room(5, 3, 0)), [12, 0]);
+    let told = room(5, 4, 0).range(&low, &high, 4, 0);
     assert_eq!(told, ([0, 0, 5, 4, 1, 0], 10));
 }
 

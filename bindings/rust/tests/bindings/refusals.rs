@@ -253,6 +253,14 @@ fn refusals_are_errors_with_a_sentence() {
         revision,
         "there is no record of the number to revise, or its new length is above 1000000"
     );
+    let later = |place| Refusal::from_parts(4_000, place).map(|refusal| refusal.to_string());
+    let sentence = "refusal 4000, which these bindings do not know";
+    assert_eq!(later(0).as_deref(), Some(sentence));
+    assert_eq!(later(7), Some(format!("record 7: {sentence}")));
+}
+
+#[test]
+fn a_bad_range_has_a_sentence_with_and_without_a_record() {
     let record = Refusal::BadRange { record: Some(2) }.to_string();
     assert_eq!(
         record,
@@ -264,8 +272,4 @@ fn refusals_are_errors_with_a_sentence() {
         records,
         "the outlines with low and high prices have different numbers of records"
     );
-    let later = |place| Refusal::from_parts(4_000, place).map(|refusal| refusal.to_string());
-    let sentence = "refusal 4000, which these bindings do not know";
-    assert_eq!(later(0).as_deref(), Some(sentence));
-    assert_eq!(later(7), Some(format!("record 7: {sentence}")));
 }
