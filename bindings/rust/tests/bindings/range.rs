@@ -1,7 +1,7 @@
 //! Prices not yet agreed: the sure set, floor and roof, what is promised of prices between, the
 //! refusals, and the buffers.
 
-use crate::support::{bytes, chain, changed, cost, diversity, faulty, fields_of, headed_a};
+use crate::support::{bytes, chain, changed, diversity, faulty, fields_of, headed_a};
 use crate::support::{locked_a, outline, outlines, plates, room, samples, sound, star};
 use crate::support::{star_records, tree_a, Buffers, Draw, INTERLEAVED, LOCK, TREE_A, WAYS};
 use plates::{choose_in, sys, Outline, Record, Refusal, SureChoice, Tree, Way, Work};
@@ -237,14 +237,14 @@ fn for_all_prices_between_the_sure_set_fits_and_the_best_lies_from_floor_to_roof
     let (mut met, mut equal) = ([0; 3], 0);
     for_each_call(4, |low, high, count, way| {
         let sure = sure(low, high, count, way);
-        let plates = plates(sure.choice());
+        let marks = sure.choice().marks();
         let [one, two] = [0; 2].map(|_| between(low, high, draw));
         for agreed in [low, &one, &two, high] {
-            let taxa = plates.iter().map(|plate| agreed.find(*plate).unwrap());
-            let taxa: Vec<Record> = taxa.collect();
-            assert!(agreed.taxa().all(|t| !t.locked || taxa.contains(&t)));
-            assert!(cost(agreed, &taxa) + sure.choice().spare() <= count);
-            assert_eq!(diversity(agreed, &taxa, way), sure.floor());
+            let mut marked = agreed.records().zip(marks);
+            assert!(marked.all(|(record, mark)| !record.locked || *mark == 1));
+            let sheet = agreed.sheet(marks, way).unwrap();
+            assert!(sheet.quarters() + sure.choice().spare() <= count);
+            assert_eq!(sheet.diversity(), sure.floor());
             let best = best(agreed, count, way);
             assert!(sure.floor() <= best && best <= sure.roof());
             if sure.floor() < sure.roof() {
@@ -391,7 +391,8 @@ fn links_are_compared() {
 #[test]
 fn low_prices_above_the_high_ones_are_refused() {
     for tree in outlines() {
-        for number in 1..=tree.records().len() as u32 {
+        let records = tree.records().len();
+        for number in (1..=records as u32).step_by(1 + records / 16) {
             let at =
                 |price: u32| priced(&tree, |r| if r.number == number { price } else { r.price });
             let prices = [
