@@ -693,19 +693,19 @@ fn ways_come_first_and_then_the_check_of_each_outline() {
 
 #[test]
 fn after_the_check_come_the_range_the_count_the_buffers_and_the_locks() {
-    let none = || Buffers::new(0, 0, 0);
+    let buffers = || [Buffers::new(0, 0, 0), room(5, 3, 0)];
     let low = with_last(2, LOCK | 13);
+    let judged = |high: &[u8], count| buffers().map(|lent| refused([&low, high], count, 1, lent));
     let [unlocked, cheaper] = [with_last(2, 13), with_last(1, LOCK | 13)];
     let one = bytes(&[[0, 0, 1, 1, 1]]);
     for (high, place) in [(unlocked, 5), (cheaper, 5), (one, 0)] {
         for count in [4_097, 0] {
-            assert_eq!(refused([&low, &high], count, 1, none()), [17, place]);
+            assert_eq!(judged(&high, count), [[17, place]; 2]);
         }
     }
     let high = with_last(4, LOCK | 13);
-    assert_eq!(refused([&low, &high], 4_097, 1, none()), [4, 0]);
-    assert_eq!(refused([&low, &high], 3, 1, none()), [9, 0]);
-    assert_eq!(refused([&low, &high], 3, 1, room(5, 3, 0)), [12, 0]);
+    assert_eq!(judged(&high, 4_097), [[4, 0]; 2]);
+    assert_eq!(judged(&high, 3), [[9, 0], [12, 0]]);
     let told = room(5, 4, 0).range(&low, &high, 4, 0);
     assert_eq!(told, ([0, 0, 5, 4, 1, 0], 10));
 }
