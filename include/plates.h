@@ -438,10 +438,10 @@
  * - Nothing is written but what is named at each function, and no byte 0 behind a text. Only plates_read writes to the outline
  *   that it is handed, and only plates_choose, plates_quick, plates_revise and plates_range to the marks.
  * - The time of a call is bounded. That of plates_choose grows linearly with the count. plates_revise does no more than two calls of
- *   plates_choose do, beside copying the outline, and neither does plates_range, beside comparing its outlines. Checking, finding,
- *   the quick choice, the sheet, the views, the house form and comparing take at most a few steps for each pair of records of an
- *   outline, the quick choice also for each pick with each record, writing also for each byte of the text, and reading also for
- *   each byte of the text and for each record with each pair of numbers.
+ *   plates_choose do, beside copying the outline, and plates_range no more than one on each of its outlines, beside comparing these.
+ *   Checking, finding, the quick choice, the sheet, the views, the house form and comparing take at most a few steps for each pair
+ *   of records of an outline, the quick choice also for each pick with each record, writing also for each byte of the text, and
+ *   reading also for each byte of the text and for each record with each pair of numbers.
  * - Little stack is used, since the table stands in work: choosing, revising, the quick choice, the choice for a range of prices,
  *   writing, the sheet, the house form and comparing nest no deeper than there are records, which takes less than 64 KB on x86-64
  *   for the deepest outlines. Reading a text takes less than 70 KB, however deep it is: its calls nest for 127 records, and no
