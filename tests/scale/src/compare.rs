@@ -6,10 +6,11 @@ use crate::form::{ascends, least_plates, FormExpected};
 use crate::frame::difference;
 use crate::library::{
     CheckObserved, ChooseObserved, CompareObserved, FindObserved, FormObserved, QuickObserved,
-    ReadObserved, ReviseObserved, SheetObserved, ViewObserved, WriteObserved,
+    RangeObserved, ReadObserved, ReviseObserved, SheetObserved, ViewObserved, WriteObserved,
 };
 use crate::outline::{self, is_preorder, Record, LOCK};
 use crate::quick::QuickExpected;
+use crate::range::RangeExpected;
 use crate::reading::ReadExpected;
 use crate::revise::{ReviseCall, ReviseExpected};
 use crate::rules::{self, Refusal};
@@ -353,6 +354,10 @@ pub fn beside_choices(
         difference("work", &chosen.work, &after.work, &[]),
         (moved != best[1] - best[0]).then(|| format!("the best moved from {best:?} by {moved}")),
     ];
+    beside_plates_choose(differences)
+}
+
+fn beside_plates_choose<const N: usize>(differences: [Option<String>; N]) -> Vec<String> {
     let differences = differences.into_iter().flatten();
     differences
         .map(|text| format!("beside plates_choose: {text}"))
@@ -442,6 +447,44 @@ fn not_left(call: &ReviseCall, old: &ChooseObserved, observed: &ReviseObserved) 
         difference("marks that stay", &old.after.marks, &after.marks, &[]),
     ];
     differences.into_iter().flatten().collect()
+}
+
+pub fn range(expected: &RangeExpected, observed: &RangeObserved) -> Comparison {
+    let mut comparison = choose(&expected.choice, &observed.chosen);
+    let (low, low_after) = (&observed.low_before, &observed.low_after);
+    let (roof, roof_after) = (&observed.roof_before, &observed.roof_after);
+    let differences = [
+        difference("outline at low prices", low, low_after, &[]),
+        difference("roof", roof, roof_after, &[expected.roof]),
+    ];
+    comparison
+        .differences
+        .extend(differences.into_iter().flatten());
+    comparison.values += low_after.cells.len() + roof_after.cells.len();
+    comparison
+}
+
+/// Where a call for a range of prices does not go with what the library itself chooses: at high prices in buffers that were the same,
+/// and at low prices.
+pub fn beside_both_prices(
+    observed: &RangeObserved,
+    low: &ChooseObserved,
+    high: &ChooseObserved,
+) -> Vec<String> {
+    let (after, chosen) = (&observed.chosen.after, &high.after);
+    let best = match high.returned {
+        0 => low.after.answer.content()[2],
+        _ => 0,
+    };
+    let roof = observed.roof();
+    beside_plates_choose([
+        returned(high.returned, observed.chosen.returned),
+        difference("answer", &chosen.answer, &after.answer, &[]),
+        difference("marks", &chosen.marks, &after.marks, &[]),
+        difference("curve", &chosen.curve, &after.curve, &[]),
+        difference("work", &chosen.work, &after.work, &[]),
+        (roof != best).then(|| format!("roof: the best at low prices is {best}, got {roof}")),
+    ])
 }
 
 #[cfg(test)]

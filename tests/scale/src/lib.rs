@@ -25,10 +25,15 @@ mod measures;
 pub mod newick;
 pub mod outline;
 pub mod peer;
+mod prices_between;
 pub mod quick;
 pub mod quick_cases;
 mod quick_runs;
 pub mod random;
+pub mod range;
+mod range_bytes;
+pub mod range_cases;
+mod range_runs;
 pub mod reading;
 pub mod report;
 pub mod revise;
@@ -64,6 +69,8 @@ mod wrong_forms;
 mod wrong_orders;
 #[cfg(test)]
 mod wrong_picks;
+#[cfg(test)]
+mod wrong_ranges;
 #[cfg(test)]
 mod wrong_revisions;
 #[cfg(test)]

@@ -6,6 +6,7 @@ use crate::form::FormCall;
 use crate::frame::Frame;
 use crate::quick::QuickCall;
 use crate::random::Random;
+use crate::range::RangeCall;
 use crate::reading::ReadCall;
 use crate::revise::ReviseCall;
 use crate::sheet::SheetCall;
@@ -114,6 +115,22 @@ extern "C" {
         work_len: usize,
         answer: *mut u32,
         moved: *mut i64,
+    ) -> u32;
+    fn plates_range(
+        low: *const u8,
+        low_len: usize,
+        high: *const u8,
+        high_len: usize,
+        count: u32,
+        way: u32,
+        marks: *mut u8,
+        marks_len: usize,
+        curve: *mut u32,
+        curve_len: usize,
+        work: *mut u64,
+        work_len: usize,
+        answer: *mut u32,
+        roof: *mut u32,
     ) -> u32;
 }
 
@@ -812,6 +829,91 @@ pub fn revise(call: &ReviseCall, before: ReviseBuffers) -> ReviseObserved {
     }
 }
 
+/// What a call for a range of prices is handed, with its guards: the buffers of a choosing call, whose outline is the one at high
+/// prices, the outline at low prices and the roof.
+#[derive(Clone, Debug)]
+pub struct RangeBuffers {
+    pub choice: Buffers,
+    pub low: Frame<u8>,
+    pub roof: Frame<u32>,
+}
+
+impl RangeBuffers {
+    pub fn random(call: &RangeCall, rng: &mut Random) -> Self {
+        RangeBuffers {
+            choice: Buffers::random(&call.high, rng),
+            low: Frame::holding(&call.low, rng),
+            roof: Frame::random(1, rng),
+        }
+    }
+}
+
+/// What a call for a range of prices returned and did to its buffers.
+#[derive(Clone, Debug)]
+pub struct RangeObserved {
+    pub chosen: ChooseObserved,
+    pub low_before: Frame<u8>,
+    pub low_after: Frame<u8>,
+    pub roof_before: Frame<u32>,
+    pub roof_after: Frame<u32>,
+}
+
+impl RangeObserved {
+    pub fn roof(&self) -> u32 {
+        self.roof_after.content()[0]
+    }
+}
+
+/// A program that chooses for a range of prices: the library, or in tests a wrong one.
+pub type Ranger<'a> = &'a dyn Fn(&RangeCall, RangeBuffers) -> RangeObserved;
+
+pub fn guarded_range(call: &RangeCall, rng: &mut Random) -> RangeObserved {
+    range(call, RangeBuffers::random(call, rng))
+}
+
+/// The library's function on buffers as they are. An outline at low prices that is a part of the other one's memory is handed over
+/// from there.
+pub fn range(call: &RangeCall, before: RangeBuffers) -> RangeObserved {
+    let RangeBuffers { choice, low, roof } = before;
+    let (mut after, mut low_after, mut roof_after) = (choice.clone(), low.clone(), roof.clone());
+    let high = after.outline.pointer();
+    let at_low = call.within.map_or(low_after.pointer(), |at| {
+        assert_eq!(after.outline.content()[at..][..low.len], *low.content());
+        high.wrapping_add(at)
+    });
+    // SAFETY: each frame's buffer has the length given here, and the frames are separate allocations; an outline inside the other
+    // ends inside it, and neither is written to; the answer has room for six numbers and the roof for one.
+    let returned = unsafe {
+        plates_range(
+            at_low,
+            low.len,
+            high,
+            after.outline.len,
+            call.high.count,
+            call.high.way,
+            after.marks.pointer(),
+            after.marks.len,
+            after.curve.pointer(),
+            after.curve.len,
+            after.work.pointer(),
+            after.work.len,
+            after.answer.pointer(),
+            roof_after.pointer(),
+        )
+    };
+    RangeObserved {
+        chosen: ChooseObserved {
+            returned,
+            before: choice,
+            after,
+        },
+        low_before: low,
+        low_after,
+        roof_before: roof,
+        roof_after,
+    }
+}
+
 #[cfg(test)]
 mod tests {
     use super::*;
@@ -984,5 +1086,42 @@ mod tests {
         let curve = [0, 0, 5, 1, 5, 1, 10, 3, 10, 3, 10, 3];
         assert_eq!(after.curve.content()[..12], curve);
         assert_eq!(after.work.content()[..168], [0; 168]);
+    }
+
+    /// Tree A, and at low prices record 3 for 2 quarters, so that all three fit.
+    #[test]
+    fn wrapper_chooses_for_a_range_of_prices() {
+        let outline = bytes(&tree_a());
+        let mut cheaper = outline.clone();
+        cheaper[40] = 2;
+        for (low, within, roof) in [
+            (&cheaper, None, 14),
+            (&outline, None, 12),
+            (&outline, Some(0), 12),
+        ] {
+            let call = RangeCall {
+                high: Call {
+                    outline: outline.clone(),
+                    count: 5,
+                    way: 0,
+                    marks: 6,
+                    curve: 13,
+                    work: 169,
+                },
+                low: low.clone(),
+                within,
+            };
+            let observed = guarded_range(&call, &mut Random::new(1));
+            assert_eq!((observed.chosen.returned, observed.roof()), (0, roof));
+            let ChooseObserved { before, after, .. } = observed.chosen;
+            assert_eq!(after.answer.content(), [0, 0, 12, 5, 2, 0]);
+            assert_eq!(after.outline.content(), outline);
+            assert_eq!(observed.low_after.content(), *low);
+            assert_eq!(after.marks.content()[..5], [0, 0, 1, 0, 1]);
+            assert_eq!(after.marks.content()[5], before.marks.content()[5]);
+            let curve = [0, 0, 5, 1, 5, 1, 10, 3, 10, 3, 12, 5];
+            assert_eq!(after.curve.content()[..12], curve);
+            assert_eq!(after.work.content()[..168], [0; 168]);
+        }
     }
 }

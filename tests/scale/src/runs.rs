@@ -71,7 +71,12 @@ impl Runner {
         self.stated_orders()?;
         self.revised_lengths(2 * outlines)?;
         self.length_walks(outlines / 10)?;
-        self.stated_revisions()
+        self.stated_revisions()?;
+        self.price_ranges(outlines)?;
+        self.every_byte(outlines / 500)?;
+        self.every_price_between(outlines / 50)?;
+        self.some_prices_between(outlines / 100, outlines / 2_500)?;
+        self.stated_ranges()
     }
 
     /// Starts a run with numbers that do not depend on the runs before it.

@@ -110,7 +110,7 @@ fn stored(outline: &[u8], at: usize) -> Option<u32> {
 }
 
 /// The same call with room for what it needs and no more, unless the page count is refused anyway.
-fn roomy(call: &Call) -> Call {
+pub(crate) fn roomy(call: &Call) -> Call {
     if call.count > 4_096 {
         return call.clone();
     }
@@ -124,7 +124,7 @@ fn roomy(call: &Call) -> Call {
 }
 
 /// What the library chooses in buffers of its own.
-fn chosen(call: &Call) -> ChooseObserved {
+pub(crate) fn chosen(call: &Call) -> ChooseObserved {
     library::guarded_choose(call, &mut Random::new(0))
 }
 
@@ -270,7 +270,7 @@ fn refused(refusal: Refusal, before: ReviseBuffers) -> ReviseObserved {
 }
 
 /// What a wrong program does otherwise.
-type Otherwise<T> = (&'static str, T);
+pub(crate) type Otherwise<T> = (&'static str, T);
 pub type Wrong = Otherwise<Program>;
 
 const STORING: [Otherwise<Store>; 19] = [
@@ -353,15 +353,15 @@ const AFTER: [Otherwise<Choosing>; 3] = [
     ("the new choice without locks", without_locks),
 ];
 
-fn one_quarter_less(call: &mut Call) {
+pub(crate) fn one_quarter_less(call: &mut Call) {
     call.count = call.count.saturating_sub(1);
 }
 
-fn in_the_other_way(call: &mut Call) {
+pub(crate) fn in_the_other_way(call: &mut Call) {
     call.way ^= 1;
 }
 
-fn without_locks(call: &mut Call) {
+pub(crate) fn without_locks(call: &mut Call) {
     for at in taxa(&outline::records(&call.outline)) {
         call.outline[RECORD_BYTES * at + 15] &= 127;
     }
@@ -1059,7 +1059,7 @@ fn leave_old(branch: Branch, choices: &Choices, observed: &mut ReviseObserved) {
 }
 
 /// Clears the buffer from there to its end.
-fn clear<T: Cell>(frame: &mut Frame<T>, from: usize) {
+pub(crate) fn clear<T: Cell>(frame: &mut Frame<T>, from: usize) {
     let end = frame.start + frame.len;
     frame.cells[frame.start + from..end].fill(T::from_bits(0));
 }
