@@ -499,19 +499,22 @@ mod tests {
     use crate::frame::Frame;
     use crate::heading_cases::tree_a_with;
     use crate::library::{
-        self, Buffers, CompareBuffers, FormBuffers, QuickBuffers, ReadBuffers, ReviseBuffers,
-        SheetBuffers, ViewBuffers, WriteBuffers,
+        self, Buffers, CompareBuffers, FormBuffers, QuickBuffers, RangeBuffers, ReadBuffers,
+        ReviseBuffers, SheetBuffers, ViewBuffers, WriteBuffers,
     };
     use crate::lock_cases::locking;
     use crate::outline::bytes;
     use crate::quick::{self, QuickCall};
     use crate::random::Random;
+    use crate::range::{self, RangeCall};
     use crate::reading::{self, ReadCall};
     use crate::revise::{self, ReviseCall};
     use crate::sheet::{self, SheetCall};
     use crate::view::{self, Reader, ViewCall, READERS};
     use crate::writing::{self, WriteCall};
-    use crate::{wrong_forms, wrong_orders, wrong_picks, wrong_revisions, wrong_views};
+    use crate::{
+        wrong_forms, wrong_orders, wrong_picks, wrong_ranges, wrong_revisions, wrong_views,
+    };
 
     /// What a right library does.
     fn right(expected: &Expected, call: &Call) -> ChooseObserved {
@@ -1374,5 +1377,113 @@ mod tests {
                 assert_eq!(beside_used_buffers(&call, &old, &both, &altered).len(), 1);
             }
         }
+    }
+
+    /// Tree A, where plate 11 costs 2 to 4 quarters, by a right program, in buffers of these lengths: {4, 5} is sure, and all are the
+    /// best at low prices.
+    fn ranging(buffers: [usize; 3]) -> (RangeExpected, RangeObserved) {
+        let [marks, curve, work] = buffers;
+        let [low, outline] = [2, 4].map(|price| {
+            let mut records = cases::tree_a();
+            records[2].price = price;
+            bytes(&records)
+        });
+        let call = RangeCall {
+            high: Call {
+                outline,
+                count: 5,
+                way: 0,
+                marks,
+                curve,
+                work,
+            },
+            low,
+            within: None,
+        };
+        let before = RangeBuffers::random(&call, &mut Random::new(13));
+        let observed = wrong_ranges::RIGHT.run()(&call, before);
+        (range::expected(&call, expect::by_table).0, observed)
+    }
+
+    #[test]
+    fn wrong_ranges_are_noticed() {
+        for (lengths, number) in [([9, 20, 200], 0), ([5, 12, 168], 0), ([5, 12, 167], 9)] {
+            let pair = ranging(lengths);
+            assert_eq!(pair.0.number(), number);
+            assert_eq!(pair.0.roof, if number == 0 { 14 } else { 0 });
+            assert_eq!(range(&pair.0, &pair.1).differences, [""; 0]);
+            is_the_one_difference(range, &pair, |o| &mut o.chosen.after.outline, |v| v ^ 1);
+            is_the_one_difference(range, &pair, |o| &mut o.low_after, |v| v ^ 128);
+            is_the_one_difference(range, &pair, |o| &mut o.chosen.after.marks, |v| v ^ 1);
+            is_the_one_difference(
+                range,
+                &pair,
+                |o| &mut o.chosen.after.curve,
+                |v| v ^ (1 << 31),
+            );
+            is_the_one_difference(
+                range,
+                &pair,
+                |o| &mut o.chosen.after.work,
+                |v| v ^ (1 << 63),
+            );
+            is_the_one_difference(range, &pair, |o| &mut o.roof_after, |v| v ^ (1 << 30));
+            let (expected, mut altered) = pair;
+            altered.chosen.returned ^= 1;
+            assert_eq!(range(&expected, &altered).differences.len(), 1);
+            altered.roof_after = altered.roof_before.clone();
+            assert_eq!(range(&expected, &altered).differences.len(), 2);
+        }
+    }
+
+    #[test]
+    fn the_values_of_a_range_are_counted_with_their_guards() {
+        let (expected, observed) = ranging([9, 20, 200]);
+        let of_choice = choose(&expected.choice, &observed.chosen).values;
+        let more = observed.low_after.cells.len() + observed.roof_after.cells.len();
+        assert!(more > 80 + 1 + 16);
+        assert_eq!(range(&expected, &observed).values, of_choice + more);
+    }
+
+    #[test]
+    fn a_range_that_does_not_go_with_the_choices_at_both_prices_is_noticed() {
+        let (_, observed) = ranging([9, 20, 200]);
+        let mut before = observed.chosen.before.clone();
+        let high = library::choose_in(5, 0, before.clone());
+        before.outline.write(observed.low_before.content());
+        let low = library::choose_in(5, 0, before);
+        let found = |observed: &RangeObserved| beside_both_prices(observed, &low, &high);
+        assert_eq!(found(&observed), [""; 0]);
+        // answer, marks, curve and roof
+        assert_eq!(beside_both_prices(&observed, &high, &low).len(), 4);
+        let mut altered = observed.clone();
+        altered.roof_after.write(&[10]);
+        let text = "beside plates_choose: roof: the best at low prices is 14, got 10";
+        assert_eq!(found(&altered), [text]);
+        let alter: [fn(&mut RangeObserved); 5] = [
+            |o| o.chosen.returned = 9,
+            |o| o.chosen.after.answer.cells[o.chosen.after.answer.start + 5] ^= 1,
+            |o| o.chosen.after.marks.cells[0] ^= 1,
+            |o| o.chosen.after.curve.cells[o.chosen.after.curve.start] ^= 1,
+            |o| o.chosen.after.work.cells[o.chosen.after.work.start] ^= 1,
+        ];
+        for alter in alter {
+            let mut altered = observed.clone();
+            alter(&mut altered);
+            assert_eq!(found(&altered).len(), 1);
+        }
+    }
+
+    /// What fits at low prices alone is refused, and has no roof.
+    #[test]
+    fn a_refused_range_beside_a_refusal_at_high_prices_has_no_roof() {
+        let (_, mut observed) = ranging([5, 12, 167]);
+        let high = library::choose_in(5, 0, observed.chosen.before.clone());
+        let (_, at_low) = ranging([9, 20, 200]);
+        let low = at_low.chosen;
+        assert_eq!((high.returned, low.returned), (9, 0));
+        assert_eq!(beside_both_prices(&observed, &low, &high), [""; 0]);
+        observed.roof_after.write(&[10]);
+        assert_eq!(beside_both_prices(&observed, &low, &high).len(), 1);
     }
 }

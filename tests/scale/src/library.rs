@@ -871,23 +871,26 @@ pub fn guarded_range(call: &RangeCall, rng: &mut Random) -> RangeObserved {
     range(call, RangeBuffers::random(call, rng))
 }
 
-/// The library's function on buffers as they are. An outline at low prices that is a part of the other one's memory is handed over
-/// from there.
+/// The outline at low prices where it stands: at times it is a part of the other one's memory.
+fn low_pointer(call: &RangeCall, high: &mut Frame<u8>, low: &mut Frame<u8>) -> *const u8 {
+    call.within.map_or(low.pointer(), |at| {
+        assert_eq!(high.content()[at..][..low.len], *low.content());
+        high.pointer().wrapping_add(at)
+    })
+}
+
+/// The library's function on buffers as they are.
 pub fn range(call: &RangeCall, before: RangeBuffers) -> RangeObserved {
     let RangeBuffers { choice, low, roof } = before;
     let (mut after, mut low_after, mut roof_after) = (choice.clone(), low.clone(), roof.clone());
-    let high = after.outline.pointer();
-    let at_low = call.within.map_or(low_after.pointer(), |at| {
-        assert_eq!(after.outline.content()[at..][..low.len], *low.content());
-        high.wrapping_add(at)
-    });
+    let at_low = low_pointer(call, &mut after.outline, &mut low_after);
     // SAFETY: each frame's buffer has the length given here, and the frames are separate allocations; an outline inside the other
     // ends inside it, and neither is written to; the answer has room for six numbers and the roof for one.
     let returned = unsafe {
         plates_range(
             at_low,
             low.len,
-            high,
+            after.outline.pointer(),
             after.outline.len,
             call.high.count,
             call.high.way,

@@ -275,7 +275,7 @@ impl Runner {
             for _ in 0..FILLINGS {
                 let mut records = shape.clone();
                 fill_for_ties(&mut records, &mut self.rng);
-                let outlines = raised(&records, &mut self.rng);
+                let outlines = raised(&records, records.len(), &mut self.rng);
                 for count in 0..=SMALL_COUNT {
                     self.try_every_between(&outlines, count, &mut met)?;
                 }
@@ -326,7 +326,8 @@ fn some_small_range(rng: &mut Random) -> ([Vec<Record>; 2], u32) {
             headings::fill(&mut records, rng, |rng| rng.up_to(2));
         }
     }
-    let outlines = raised(&records, rng);
+    let tries = 2 * records.len();
+    let outlines = raised(&records, tries, rng);
     let all: u32 = outlines[1].iter().map(|record| record.price).sum();
     let count = rng.up_to(all.min(12) + 1);
     if locks::has_any(&records) || !rng.one_in(4) {
@@ -341,10 +342,9 @@ fn some_small_range(rng: &mut Random) -> ([Vec<Record>; 2], u32) {
 }
 
 /// The records and the same with higher prices at some, as long as there are not too many outlines between.
-fn raised(records: &[Record], rng: &mut Random) -> [Vec<Record>; 2] {
+fn raised(records: &[Record], tries: usize, rng: &mut Random) -> [Vec<Record>; 2] {
     let mut outlines = [records.to_vec(), records.to_vec()];
-    let wanted = 1 + rng.index(records.len());
-    for _ in 0..wanted {
+    for _ in 0..1 + rng.index(tries) {
         let at = rng.index(records.len());
         let price = outlines[1][at].price;
         outlines[1][at].price += 1 + rng.up_to(2);
@@ -366,4 +366,233 @@ fn described(between: &Call, range: &RangeCall) -> String {
         line(&range.low),
         line(&range.high.outline)
     )
+}
+
+#[cfg(test)]
+mod tests {
+    use super::*;
+    use crate::cases::tree_a;
+    use crate::heading_cases::tree_a_with;
+    use crate::lock_cases::locking;
+    use crate::wrong_ranges::{self, Program, RIGHT};
+
+    /// Tree A with a heading of 0 to 2 at record 2, and plate 11 for 3 or 4 quarters.
+    fn range_of_tree_a() -> [Vec<Record>; 2] {
+        let mut high = tree_a_with(0, 2);
+        high[2].price = 4;
+        [tree_a(), high]
+    }
+
+    #[test]
+    fn every_outline_between_is_there_once() {
+        let outlines = range_of_tree_a();
+        let all = every_between(&outlines);
+        let prices: Vec<[u32; 2]> = all
+            .iter()
+            .map(|records| [records[1].price, records[2].price])
+            .collect();
+        assert_eq!(prices, [[0, 3], [0, 4], [1, 3], [1, 4], [2, 3], [2, 4]]);
+        assert_eq!(times(&outlines), 6);
+        for mut records in all {
+            (records[1].price, records[2].price) = (0, 3);
+            assert_eq!(records, tree_a());
+        }
+        let same = [tree_a(), tree_a()];
+        assert_eq!((every_between(&same), times(&same)), (vec![tree_a()], 1));
+    }
+
+    #[test]
+    fn drawn_outlines_lie_between() {
+        let rng = &mut Random::new(1);
+        let outlines = range_of_tree_a();
+        let all = every_between(&outlines);
+        let drawn: Vec<Vec<Record>> = (0..200).map(|_| some_between(&outlines, rng)).collect();
+        assert!(all.iter().all(|records| drawn.contains(records)));
+        assert!(drawn.iter().all(|records| all.contains(records)));
+    }
+
+    #[test]
+    fn small_ranges_are_accepted_and_have_not_too_many_outlines_between() {
+        let rng = &mut Random::new(2);
+        let (mut locked, mut many, mut one) = (0, 0, 0);
+        for _ in 0..1_000 {
+            let (outlines, count) = some_small_range(rng);
+            let [low, high] = outlines.each_ref().map(|records| bytes(records));
+            assert_eq!(crate::rules::check(&low), None);
+            assert_eq!(range::bad_range(&low, &high), None, "{outlines:?}");
+            assert!(count <= 13 && times(&outlines) <= MOST_BETWEEN);
+            locked += u32::from(locks::has_any(&outlines[0]));
+            many += u32::from(times(&outlines) > 100);
+            one += u32::from(times(&outlines) < 5);
+        }
+        assert!(
+            locked > 100 && many > 100 && one > 100,
+            "{locked}, {many}, {one}"
+        );
+    }
+
+    /// What is found of a right program's range of tree A with plate 13 locked, altered, at prices between, for 5 quarters.
+    fn found(alter: fn(&mut RangeObserved), best: u32, chosen: [u32; 3]) -> Vec<String> {
+        let rng = &mut Random::new(3);
+        let outlines = range_of_tree_a().map(|records| locking(&[5], records));
+        let (count, way) = (5, 0);
+        let range = Range {
+            outlines: &outlines,
+            count,
+            way,
+        };
+        let call = range.call(rng);
+        let mut observed = RIGHT.run()(&call, RangeBuffers::random(&call, rng));
+        assert_eq!(observed.chosen.after.answer.content(), [0, 0, 10, 5, 2, 0]);
+        assert_eq!(observed.roof(), 12);
+        alter(&mut observed);
+        let between = Call::roomy(bytes(&every_between(&outlines)[2]), count, way, rng);
+        let mut expected = expect::by_table(&between);
+        let mut of_library = library::guarded_choose(&between, rng);
+        assert_eq!(expected.answer[2], 10);
+        expected.answer[2] = best;
+        let [number, place, diversity] = chosen;
+        of_library.after.answer.write(&[number, place, diversity]);
+        not_kept(&observed, &between, &expected, &of_library)
+    }
+
+    #[test]
+    fn what_is_not_kept_between_is_said() {
+        assert_eq!(found(|_| {}, 10, [0, 0, 10]), [""; 0]);
+        assert_eq!(found(|_| {}, 12, [0, 0, 12]), [""; 0]);
+        let of = |text: &str| [format!("floor 10, roof 12: {text}")];
+        assert_eq!(found(|_| {}, 9, [0, 0, 10]), of("the best is 9, refusal 0"));
+        assert_eq!(
+            found(|_| {}, 13, [0, 0, 10]),
+            of("the best is 13, refusal 0")
+        );
+        let refused = "plates_choose gives [12, 0, 11, 4, 2, 1]";
+        assert_eq!(found(|_| {}, 10, [12, 0, 11]), of(refused));
+        let below = "plates_choose gives [0, 0, 9, 4, 2, 1]";
+        assert_eq!(found(|_| {}, 10, [0, 0, 9]), of(below));
+        let above = "plates_choose gives [0, 0, 13, 4, 2, 1]";
+        assert_eq!(found(|_| {}, 10, [0, 0, 13]), of(above));
+    }
+
+    #[test]
+    fn a_sure_set_that_is_none_between_is_said() {
+        // {3, 5} has 12 for 6, and {3, 4} has 9 for 5 without the lock
+        let dear: fn(&mut RangeObserved) = |observed| {
+            observed.chosen.after.marks.write(&[0, 0, 1, 0, 1]);
+            observed.chosen.after.answer.cells[observed.chosen.after.answer.start + 2] = 12;
+        };
+        assert_eq!(
+            found(dear, 12, [0, 0, 12]),
+            ["floor 12, roof 12: the sure set costs 6"]
+        );
+        let unlocked: fn(&mut RangeObserved) = |observed| {
+            observed.chosen.after.marks.write(&[0, 0, 1, 1, 0]);
+            observed.chosen.after.answer.cells[observed.chosen.after.answer.start + 2] = 9;
+        };
+        assert_eq!(
+            found(unlocked, 10, [0, 0, 10]),
+            ["floor 9, roof 12: the sure set lacks a lock"]
+        );
+        let floor: fn(&mut RangeObserved) = |observed| {
+            observed.chosen.after.answer.cells[observed.chosen.after.answer.start + 2] = 9;
+        };
+        assert_eq!(
+            found(floor, 10, [0, 0, 10]),
+            ["floor 9, roof 12: the sure set has 10"]
+        );
+        let roof: fn(&mut RangeObserved) = |observed| observed.roof_after.write(&[9]);
+        assert_eq!(found(roof, 10, [0, 0, 10]).len(), 2);
+    }
+
+    #[test]
+    fn outlines_between_are_counted_by_what_their_best_is() {
+        let outlines = range_of_tree_a();
+        let mut met = Met::default();
+        let mut add = |count| {
+            let range = Range {
+                outlines: &outlines,
+                count,
+                way: 0,
+            };
+            let rng = &mut Random::new(4);
+            let between = every_between(&outlines);
+            let tried = range.tried(between, &by_exhaustive_search, &RIGHT.run(), rng);
+            assert!(tried.comparison.differences.is_empty());
+            met.add(&tried);
+        };
+        // {3, 5} fits at low prices alone, and 10 is the best of all others
+        add(5);
+        // all cost 9 at high prices, and fit there
+        add(9);
+        assert_eq!((met.ranges, met.apart), ([1, 1, 0], [5, 1, 0]));
+        assert_eq!((met.alike, met.outlines(), met.most), (6, 12, 6));
+    }
+
+    /// Whether outlines between show by themselves, without what is expected of the range, that a program is wrong.
+    fn is_noticed_between(program: Program) -> bool {
+        let rng = &mut Random::new(5);
+        let program = program.run();
+        (0..300).any(|_| {
+            let (outlines, count) = some_small_range(rng);
+            let range = Range {
+                outlines: &outlines,
+                count,
+                way: rng.up_to(1),
+            };
+            let between = [(); 8].map(|()| some_between(&outlines, rng));
+            let tried = range.tried(between, &by_exhaustive_search, &program, rng);
+            let mut between = tried.between.iter();
+            between.any(|(_, _, comparison)| !comparison.differences.is_empty())
+        })
+    }
+
+    #[test]
+    fn what_breaks_a_promise_is_noticed_between_alone_and_what_keeps_all_is_not() {
+        assert!(!is_noticed_between(RIGHT));
+        for (name, program) in wrong_ranges::named(&SHOWN_BETWEEN) {
+            assert!(is_noticed_between(program), "{name}");
+        }
+        for (name, program) in wrong_ranges::named(&WRONG_BEYOND_THE_PROMISES) {
+            assert!(!is_noticed_between(program), "{name}");
+        }
+    }
+
+    /// Wrong programs whose sure set is none, whose floor is not its diversity, or whose roof is too low.
+    const SHOWN_BETWEEN: [&str; 24] = [
+        "prices the other way round",
+        "the sure set from low",
+        "the sure set at high headings alone",
+        "the sure set at high prices of taxa alone",
+        "the sure set halfway",
+        "the sure set in the other way",
+        "the sure set without locks",
+        "the roof from high",
+        "the roof at low prices of taxa alone",
+        "the roof at low headings alone",
+        "the roof halfway",
+        "the roof at one quarter less",
+        "the roof at no quarter",
+        "the roof in the other way",
+        "the floor",
+        "the cost at low prices",
+        "the number of taxa at low prices",
+        "the curve's other column",
+        "the curve's last but one",
+        "no roof",
+        "low and high exchanged once judged",
+        "the choice at low prices left",
+        "the marks of low left",
+        "the diversity of low given",
+    ];
+
+    /// Wrong programs whose roof is too high, or that are wrong in what nothing is promised of between.
+    const WRONG_BEYOND_THE_PROMISES: [&str; 7] = [
+        "the roof without prices",
+        "the roof at one quarter more",
+        "the roof at 4,096 quarters",
+        "one more than the best",
+        "the lengths of the whole tree",
+        "the curve of low left",
+        "the cost of low given",
+    ];
 }

@@ -201,14 +201,7 @@ mod tests {
     fn the_first_row_that_holds_is_given() {
         let dear = bytes(&locking(&[3, 4, 5], tree_a()));
         let mut call = RangeCall {
-            high: Call {
-                outline: dear.clone(),
-                count: 5,
-                way: 0,
-                marks: 5,
-                curve: 12,
-                work: 168,
-            },
+            high: Call::roomy(dear.clone(), 5, 0, &mut Random::new(1)),
             low: dear,
             within: None,
         };

@@ -4,7 +4,7 @@
 use crate::call::Call;
 use crate::compare;
 use crate::expect;
-use crate::library::{self, RangeBuffers, Ranger};
+use crate::library;
 use crate::outline::{bytes, groups, taxa, Record, RECORD_BYTES};
 use crate::random::Random;
 use crate::range::{self, RangeCall, RangeExpected};
@@ -187,5 +187,84 @@ impl Runner {
         );
         self.report.met("17 by", &met.named(), ranges / 4);
         Ok(())
+    }
+}
+
+#[cfg(test)]
+mod tests {
+    use super::*;
+    use crate::cases::tree_a;
+    use crate::compare::differing;
+    use crate::heading_cases::tree_of_125_headings;
+
+    #[test]
+    fn the_first_record_the_last_and_one_amid_are_altered_and_taxa_and_groups() {
+        let rng = &mut Random::new(1);
+        for _ in 0..100 {
+            let of_125 = positions(&tree_of_125_headings(), rng);
+            assert!([0, 63, 126].iter().all(|at| of_125.contains(at)));
+            let of_a = positions(&tree_a(), rng);
+            assert!(of_a.len() > 2 && [0, 2, 4].iter().all(|at| of_a.contains(at)));
+            assert_eq!(positions(&tree_a()[4..], rng), [0]);
+        }
+    }
+
+    /// Every bit that is altered of every byte beside the price, low and high, and each once at a record.
+    #[test]
+    fn every_byte_is_altered_by_itself() {
+        let rng = &mut Random::new(2);
+        let outlines = [tree_a(), tree_a()];
+        let own = bytes(&tree_a());
+        let mut met = Vec::new();
+        for alteration in alterations(&outlines, 5, rng) {
+            let [low, high] = alteration.call.outlines();
+            let [of_low, of_high] = [low, high].map(|outline| differing([outline, &own]));
+            let Altered::Byte(byte) = alteration.altered else {
+                let place = RECORD_BYTES * alteration.at + 8;
+                assert!(of_low
+                    .iter()
+                    .chain(&of_high)
+                    .all(|at| (place..place + 4).contains(at)));
+                assert!(range::bad_range(low, high).is_some());
+                continue;
+            };
+            let place = RECORD_BYTES * alteration.at + byte;
+            assert_eq!([of_low, of_high].concat(), [place]);
+            met.push((place, low[place] ^ own[place], high[place] ^ own[place]));
+        }
+        let positions = positions(&tree_a(), &mut Random::new(2)).len();
+        let times = met.len();
+        assert_eq!(times, positions * BYTES.len() * FLIPS.len() * 2);
+        met.sort_unstable();
+        met.dedup();
+        assert_eq!(met.len(), times);
+    }
+
+    #[test]
+    fn alterations_are_counted_by_byte_and_by_place() {
+        let rng = &mut Random::new(3);
+        let mut met = Met::default();
+        let all = alterations(&[tree_a(), tree_a()], 5, rng);
+        for alteration in &all {
+            let (expected, _) = range::expected(&alteration.call, expect::by_table);
+            met.add(alteration, &expected);
+        }
+        let of_bytes: u64 = met.by_byte.as_flattened().iter().sum();
+        let of_prices = met.by_prices[0] + met.by_prices[1];
+        assert_eq!(of_bytes + of_prices, all.len() as u64);
+        assert_eq!(met.others, 0);
+        // a link of two accepted outlines is never another one alone, nor is the high byte of a length
+        let refused = met.refused();
+        assert!(refused[..4]
+            .iter()
+            .chain([&refused[7]])
+            .all(|&times| times * 12 == of_bytes));
+        assert!(
+            met.named().iter().all(|&(_, times)| times > 0),
+            "{:?}",
+            met.named()
+        );
+        let of_17: u64 = met.by_byte.iter().map(|times| times[0] + times[1]).sum();
+        assert_eq!(met.at.iter().sum::<u64>(), of_17 + of_prices);
     }
 }

@@ -135,7 +135,8 @@ pub fn all() -> Vec<RangeCase> {
     all.extend(room());
     all.extend(dear_locks());
     all.extend(two_sizes());
-    all.extend(other_fields());
+    all.extend(other_lengths());
+    all.extend(other_plates());
     all.extend(other_links());
     all.extend(prices_the_other_way_round());
     all.extend(two_at_fault());
@@ -685,48 +686,41 @@ fn two_sizes() -> Vec<RangeCase> {
     all
 }
 
-/// A field beside the price that is another one, at each record of tree A.
-fn other_fields() -> Vec<RangeCase> {
+/// Another length at each record of tree A.
+fn other_lengths() -> Vec<RangeCase> {
     let mut all = Vec::new();
     for number in 1..=5 {
         for length in [1, 256, 65_536, 999_995] {
             let mut other = tree_a();
             other[number - 1].length += length;
-            all.extend(bad_either_way(
-                "another length",
-                &tree_a(),
-                &other,
-                number as u32,
-            ));
+            let place = number as u32;
+            all.extend(bad_either_way("another length", &tree_a(), &other, place));
         }
-    }
-    for number in 3..=5 {
-        for field in [1, 14, 267, 65_547, 16_777_227, LOCK - 1] {
-            let mut other = tree_a();
-            other[number - 1].plate = field;
-            all.extend(bad_either_way(
-                "another plate",
-                &tree_a(),
-                &other,
-                number as u32,
-            ));
-        }
-        let locked = locking(&[number], tree_a());
-        all.extend(bad_either_way(
-            "another lock",
-            &tree_a(),
-            &locked,
-            number as u32,
-        ));
-        let both = locking(&[3, 4, 5], tree_a());
-        let mut freed = both.clone();
-        freed[number - 1].plate -= LOCK;
-        all.extend(bad_either_way("another lock", &both, &freed, number as u32));
     }
     // a price does not make up for it
     let mut longer = tree_a();
     (longer[3].length, longer[3].price) = (3, 0);
     all.extend(bad_either_way("another length", &longer, &tree_a(), 4));
+    all
+}
+
+/// Another plate at each taxon of tree A, and a lock more or less.
+fn other_plates() -> Vec<RangeCase> {
+    let mut all = Vec::new();
+    for number in 3..=5 {
+        let place = number as u32;
+        for field in [1, 14, 267, 65_547, 16_777_227, LOCK - 1] {
+            let mut other = tree_a();
+            other[number - 1].plate = field;
+            all.extend(bad_either_way("another plate", &tree_a(), &other, place));
+        }
+        let locked = locking(&[number], tree_a());
+        all.extend(bad_either_way("another lock", &tree_a(), &locked, place));
+        let both = locking(&[3, 4, 5], tree_a());
+        let mut freed = both.clone();
+        freed[number - 1].plate -= LOCK;
+        all.extend(bad_either_way("another lock", &both, &freed, place));
+    }
     all
 }
 
@@ -872,67 +866,46 @@ fn two_at_fault() -> Vec<RangeCase> {
     all
 }
 
-/// Ways beside 0 and 1, and page counts above 4,096.
+/// Ways beside 0 and 1.
+const NO_WAYS: [u32; 8] = [2, 3, 255, 256, 65_537, LOCK, LOCK + 1, u32::MAX];
+/// Page counts above 4,096.
+const GREAT: [u32; 8] = [
+    4_097,
+    4_098,
+    8_192,
+    65_536,
+    65_541,
+    LOCK,
+    LOCK + 5,
+    u32::MAX,
+];
+
+/// Of a sound range, of one whose low price is above its high one, and of two sizes.
 fn limits() -> Vec<RangeCase> {
     let [own, dearer] = [OF_A, [0, 0, 4, 1, 2]].map(|prices| bytes(&priced(&tree_a(), &prices)));
     let alone = bytes(&[taxon(0, 5, 1, 1)]);
-    let sound = [&own[..], &dearer];
-    let bad = [[&dearer[..], &own], [&own, &alone]];
-    let ways = [
-        2,
-        3,
-        255,
-        256,
-        257,
-        65_536,
-        65_537,
-        LOCK,
-        LOCK + 1,
-        u32::MAX,
-    ];
-    let counts = [
-        4_097,
-        4_098,
-        8_192,
-        65_536,
-        65_541,
-        LOCK,
-        LOCK + 5,
-        u32::MAX,
+    let ranges = [
+        ([&own[..], &dearer], (4, 0)),
+        ([&dearer, &own], (17, 3)),
+        ([&own, &alone], (17, 0)),
     ];
     let mut all = Vec::new();
-    for outlines in [sound, bad[0], bad[1]] {
-        for way in ways {
+    for (outlines, given) in ranges {
+        for way in NO_WAYS {
             all.extend(refused("a third way", outlines, [5, way], &ANY, (1, 0)));
         }
-    }
-    for count in counts {
-        for way in [ROOTED, UNROOTED] {
-            let given = (4, 0);
-            all.extend(refused(
-                "a great page count",
-                sound,
-                [count, way],
-                &ANY,
-                given,
-            ));
+        for count in GREAT {
+            for way in [ROOTED, UNROOTED] {
+                let numbers = [count, way];
+                all.extend(refused(
+                    "a great page count",
+                    outlines,
+                    numbers,
+                    &ANY,
+                    given,
+                ));
+            }
         }
-        let given = (17, 3);
-        all.extend(refused(
-            "a great page count",
-            bad[0],
-            [count, ROOTED],
-            &ANY,
-            given,
-        ));
-        let given = (17, 0);
-        all.extend(refused(
-            "a great page count",
-            bad[1],
-            [count, ROOTED],
-            &ANY,
-            given,
-        ));
     }
     all
 }

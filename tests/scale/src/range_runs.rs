@@ -19,6 +19,7 @@ use crate::report::{shell_line, Stop};
 use crate::revise_runs::outline_of_many_lengths;
 use crate::rules::{self, Refusal};
 use crate::runs::Runner;
+use crate::shapes;
 use crate::text_runs::{on_small_stack, SMALL_STACK};
 use crate::view_pairs::Kind;
 use crate::view_runs::{count, named, FAULTS};
@@ -601,18 +602,18 @@ enum Low {
 /// Mostly two sound ones that differ in prices alone, often spoiled; at times faulty ones, or two of their own. With a page count.
 fn some_outlines(rng: &mut Random) -> (Low, Vec<u8>, u32) {
     let kind = rng.below(40);
-    if kind < 4 {
+    if kind < 7 {
         return some_odd_outlines(kind, rng);
     }
     let (records, meant) = some_sound_outline(rng);
     let mut range = some_range(&records, rng);
     match kind {
-        4 | 5 => fault_in(&mut range[0], rng),
-        6 | 7 => fault_in(&mut range[1], rng),
-        8 | 9 => range.iter_mut().for_each(|records| fault_in(records, rng)),
-        10..18 => spoil(&mut range, rng),
+        7 | 8 => fault_in(&mut range[0], rng),
+        9 => fault_in(&mut range[1], rng),
+        10 => range.iter_mut().for_each(|records| fault_in(records, rng)),
+        11..18 => spoil(&mut range, rng),
         18 | 19 => (0..2).for_each(|_| spoil(&mut range, rng)),
-        20 => range[0].clone_from(&range[1].clone()),
+        20 => range[0] = range[1].clone(),
         _ => {}
     }
     let count = some_count(&bytes(&range[1]), meant, rng);
@@ -623,8 +624,9 @@ fn some_outlines(rng: &mut Random) -> (Low, Vec<u8>, u32) {
     (Low::Own(low), high, count)
 }
 
-/// Two outlines of their own, a damaged one in one memory or in two, or a part of one.
+/// Two outlines of their own, two of one size, a damaged one twice, a part of one, or a range that is out of the way.
 fn some_odd_outlines(kind: u64, rng: &mut Random) -> (Low, Vec<u8>, u32) {
+    let own = |[low, high]: [Vec<Record>; 2], count| (Low::Own(bytes(&low)), bytes(&high), count);
     match kind {
         0 | 1 => {
             let ((low, _), (high, count)) = (some_outline(rng), some_outline(rng));
@@ -639,6 +641,12 @@ fn some_odd_outlines(kind: u64, rng: &mut Random) -> (Low, Vec<u8>, u32) {
             };
             (low, outline, count)
         }
+        3 => own(some_range(&at_the_limits(rng), rng), 40),
+        4 => own(two_shapes(rng), 3),
+        5 => {
+            let (range, count) = one_for_many(rng);
+            own(range, count)
+        }
         _ => {
             let (outline, count) = some_outline(rng);
             let end = outline.len();
@@ -647,6 +655,42 @@ fn some_odd_outlines(kind: u64, rng: &mut Random) -> (Low, Vec<u8>, u32) {
             (Low::Part(rng.pick(&[last, last, any, end])), outline, count)
         }
     }
+}
+
+/// With as many records or taxa as can be, or some more.
+fn at_the_limits(rng: &mut Random) -> Vec<Record> {
+    let mut records = if rng.one_in(2) {
+        shapes::star(rng.pick(&[64, 65, 66, 127]))
+    } else {
+        let (taxa, records) = (1 + rng.index(64), rng.pick(&[127, 128, 129]));
+        shapes::random_outline_of(taxa, records, rng)
+    };
+    shapes::fill_randomly(&mut records, 40, rng);
+    records
+}
+
+/// A long branch that at low prices takes the place of some short ones, which are cheap.
+fn one_for_many(rng: &mut Random) -> ([Vec<Record>; 2], u32) {
+    let others = 2 + rng.index(4);
+    let mut low = shapes::star(others + 1);
+    shapes::fill(&mut low, rng, |rng| 1 + rng.up_to(4), |_| 1);
+    let (at, count) = (1 + rng.index(others + 1), others as u32);
+    (low[at].length, low[at].price) = (30, count);
+    let mut high = low.clone();
+    high[at].price += 1 + rng.up_to(3);
+    ([low, high], count)
+}
+
+/// Two outlines of as many records, with any links of so many.
+fn two_shapes(rng: &mut Random) -> [Vec<Record>; 2] {
+    let all = shapes::every_outline(3 + rng.index(3));
+    [(); 2].map(|()| {
+        let mut records = all[rng.index(all.len())].clone();
+        for record in &mut records {
+            (record.length, record.price) = (2, 1);
+        }
+        records
+    })
 }
 
 /// Often one whose best set changes soon.
@@ -723,7 +767,11 @@ fn fault_in(records: &mut [Record], rng: &mut Random) {
 /// Makes one of the outlines another one beside its prices, or a low price greater than its high one.
 fn spoil(range: &mut [Vec<Record>; 2], rng: &mut Random) {
     let last = range[0].len() - 1;
-    let any = rng.index(last + 1);
+    let any = if last == 126 {
+        last
+    } else {
+        rng.index(last + 1)
+    };
     let at = rng.pick(&[0, last, any, any]);
     let one = rng.index(2);
     let taxa = taxa(&range[one]);
@@ -774,7 +822,8 @@ fn exchange_links(records: &mut Vec<Record>, rng: &mut Random) {
 pub(crate) fn described(call: &RangeCall) -> String {
     let RangeCall { high, low, within } = call;
     format!(
-        "choose for a range of prices with page count {}, way {}, {} marks, {} curve numbers, {} work numbers{}\n  low: {}\n  high: {}",
+        "choose for a range of prices with page count {}, way {}, {} marks, {} curve numbers, {} work numbers{}\n  low: {}\n  \
+         high: {}",
         high.count,
         high.way,
         high.marks,

@@ -14,7 +14,7 @@ use crate::runs::Runner;
 use crate::text_cases;
 
 /// The stack that the deepest texts are read and written on, stated sheets listed, stated outlines shown, stated quick choices
-/// made, stated house forms written and compared, and stated lengths revised, with the choice before.
+/// made, stated house forms written and compared, stated lengths revised, with the choice before, and stated ranges chosen for.
 pub(crate) const SMALL_STACK: usize = 256 * 1_024;
 
 /// The refusals that reading can give.
