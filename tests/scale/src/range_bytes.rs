@@ -34,7 +34,7 @@ fn positions(records: &[Record], rng: &mut Random) -> Vec<usize> {
     positions
 }
 
-/// What is altered: which of the bytes of a record, and whether the record is a taxon; or its prices.
+/// What is altered of a record.
 #[derive(Clone, Copy, PartialEq)]
 enum Altered {
     Byte(usize),
@@ -100,8 +100,9 @@ fn some_call(low: Vec<u8>, outline: Vec<u8>, count: u32, rng: &mut Random) -> Ra
 struct Met {
     by_byte: [[u64; 3]; BYTES.len()],
     by_prices: [u64; 2],
-    /// 17 at the first record, at the last one, and amid them.
+    /// 17 at the first record, amid, and at the last one.
     at: [u64; 3],
+    /// How often altered prices came to something else.
     others: u64,
 }
 
@@ -123,10 +124,11 @@ impl Met {
         }
         if is_17 {
             let last = alteration.call.low.len() / RECORD_BYTES - 1;
-            let amid =
-                usize::from(alteration.at > 0) + usize::from(alteration.at == last && last > 0);
-            // the first, amid, the last
-            self.at[amid] += 1;
+            let place = match alteration.at {
+                0 => 0,
+                at => 1 + usize::from(at == last),
+            };
+            self.at[place] += 1;
         }
     }
 

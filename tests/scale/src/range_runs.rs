@@ -202,6 +202,12 @@ fn is_but_for(low: &Record, high: &Record, make: fn(&mut Record, &Record)) -> bo
     other && made == *high
 }
 
+/// How many columns of the curve no set fits.
+fn blank_columns(choice: &Expected) -> usize {
+    let columns = choice.curve.chunks(2);
+    columns.filter(|&column| column == NOTHING).count()
+}
+
 /// What the calls are to be now and then.
 const KINDS: [Kind<Ranging>; 86] = [
     ("rooted, floor below roof", |r| {
@@ -242,10 +248,7 @@ const KINDS: [Kind<Ranging>; 86] = [
         r.are(|low, high| low.curve != high.curve && low.answer == high.answer)
     }),
     ("a column that a set fits at low prices alone", |r| {
-        r.are(|low, high| {
-            let blank = |choice: &Expected| choice.curve[..2] == NOTHING;
-            blank(high) && !blank(low)
-        })
+        r.are(|low, high| blank_columns(low) < blank_columns(high))
     }),
     ("the same prices", |r| {
         r.is(0) && r.call.low == r.call.high.outline && r.call.within.is_none()
@@ -582,15 +585,11 @@ fn some_call(rng: &mut Random) -> RangeCall {
         high.work = rng.index(100);
     }
     high.count = count;
-    let low = match low {
+    let (low, within) = match low {
         Low::Own(low) => (low, None),
         Low::Part(at) => (high.outline[at..].to_vec(), Some(at)),
     };
-    RangeCall {
-        high,
-        low: low.0,
-        within: low.1,
-    }
+    RangeCall { high, low, within }
 }
 
 /// An outline at low prices: in its own memory, or a part of the high one from a byte on.
@@ -706,7 +705,7 @@ pub(crate) fn some_sound_outline(rng: &mut Random) -> (Vec<Record>, u32) {
     }
 }
 
-/// The records at low prices and at high ones: at one of both they have their own.
+/// The records at low prices and at high ones: at one of the two they have their own prices.
 pub(crate) fn some_range(records: &[Record], rng: &mut Random) -> [Vec<Record>; 2] {
     let mut other = records.to_vec();
     let is_lower = rng.one_in(2);

@@ -74,7 +74,7 @@ impl Runner {
         self.stated_revisions()?;
         self.price_ranges(outlines)?;
         self.every_byte(outlines / 500)?;
-        self.every_price_between(outlines / 100)?;
+        self.every_price_between(outlines / 50)?;
         self.some_prices_between(outlines / 100, outlines / 2_500)?;
         self.stated_ranges()
     }

@@ -111,8 +111,8 @@ fn at_fault(place: u32) -> Refusal {
 }
 
 /// The refusal by 17 with another place.
-fn placed(call: &RangeCall, place: fn(u32, usize) -> u32) -> Option<Refusal> {
-    RANGE(call).map(|refusal| at_fault(place(refusal.place, records(call))))
+fn placed(call: &RangeCall, place: fn(u32) -> u32) -> Option<Refusal> {
+    RANGE(call).map(|refusal| at_fault(place(refusal.place)))
 }
 
 /// A call and what was chosen: at high prices in the call's buffers, and at low ones.
@@ -132,8 +132,8 @@ impl Choices {
         self.high.after.answer.content()[at]
     }
 
-    /// A number of the curve at low prices, so many from its end.
-    fn from_the_end(&self, numbers: usize) -> u32 {
+    /// The number of the curve at low prices that has so many from it to the end.
+    fn last_but(&self, numbers: usize) -> u32 {
         let curve = self.low.after.curve.content();
         curve.len().checked_sub(numbers).map_or(0, |at| curve[at])
     }
@@ -223,9 +223,13 @@ fn refused(refusal: Refusal, before: RangeBuffers) -> RangeObserved {
 pub type Wrong = Otherwise<Program>;
 
 /// Rows in the place of 17.
-const RANGES: [Otherwise<Row>; 46] = [
+const RANGES: [Otherwise<Row>; 47] = [
     ("nothing judged", |_| None),
     ("the number of records alone judged", two_sizes),
+    ("one memory refused", |call| {
+        let refusal = call.within.map(|_| at_fault(0));
+        refusal.or_else(|| RANGE(call))
+    }),
     ("another next let through", |call| {
         judge(call, |low, high| differ_but_for(0, low, high))
     }),
@@ -409,15 +413,15 @@ const RANGES: [Otherwise<Row>; 46] = [
     ("taxa told first", |call| {
         judge(call, |low, high| high.is_taxon() && differ(low, high)).or_else(|| RANGE(call))
     }),
-    ("no place", |call| placed(call, |_, _| 0)),
+    ("no place", |call| placed(call, |_| 0)),
     ("the place from 0", |call| {
-        placed(call, |place, _| place.saturating_sub(1))
+        placed(call, |place| place.saturating_sub(1))
     }),
     ("the place's first byte", |call| {
-        placed(call, |place, _| 16 * place.saturating_sub(1))
+        placed(call, |place| 16 * place.saturating_sub(1))
     }),
     ("place 1 where the numbers of records differ", |call| {
-        placed(call, |place, _| place.max(1))
+        placed(call, |place| place.max(1))
     }),
     ("the record after the shorter one told", |call| {
         let [low, high] = call.outlines().map(<[u8]>::len);
@@ -539,12 +543,8 @@ const ROOFS: [Otherwise<Roof>; 17] = [
     }),
     ("the spare at low prices", |choices| choices.of_low(5)),
     ("the cost at high prices", |choices| choices.of_high(3)),
-    ("the curve's other column", |choices| {
-        choices.from_the_end(1)
-    }),
-    ("the curve's last but one", |choices| {
-        choices.from_the_end(4)
-    }),
+    ("the curve's other column", |choices| choices.last_but(1)),
+    ("the curve's last but one", |choices| choices.last_but(4)),
     ("the curve's first", |choices| {
         choices
             .low
@@ -698,7 +698,7 @@ const JUDGING: [Otherwise<[Row; 7]>; 21] = [
 ];
 
 /// What is altered of the choice that is made.
-const WRITING: [Otherwise<Alter>; 38] = [
+const WRITING: [Otherwise<Alter>; 39] = [
     ("the choice at low prices left", |choices, observed| {
         if observed.chosen.returned == 0 {
             let low = &choices.low.after;
@@ -839,6 +839,9 @@ const WRITING: [Otherwise<Alter>; 38] = [
             }
         },
     ),
+    ("the roof never written", |_, observed| {
+        observed.roof_after = observed.roof_before.clone();
+    }),
     ("the roof left on a refusal", |_, observed| {
         if observed.chosen.returned != 0 {
             observed.roof_after = observed.roof_before.clone();
