@@ -595,4 +595,121 @@ mod tests {
         "the curve of low left",
         "the cost of low given",
     ];
+
+    /// What is told of an outline between, beside what is expected of its range: the choice at high prices, at low ones and there.
+    type Promise = fn([&Expected; 3]) -> bool;
+
+    fn diversities(choices: [&Expected; 3]) -> [u32; 3] {
+        choices.map(|choice| choice.answer[2])
+    }
+
+    /// Whether each record that the one set marks is marked by the other.
+    fn is_within(one: &Expected, other: &Expected) -> bool {
+        let mut pairs = one.marks.iter().zip(&other.marks);
+        pairs.all(|(one, other)| one <= other)
+    }
+
+    /// Whether it holds for the diversity of each column, at high prices, at low ones and between.
+    fn in_each_column(choices: [&Expected; 3], holds: fn([u32; 3]) -> bool) -> bool {
+        let columns = choices[0].curve.len() / 2;
+        (0..columns).all(|column| holds(choices.map(|choice| choice.curve[2 * column])))
+    }
+
+    const KEPT: [(&str, Promise); 2] = [
+        ("the best lies from floor to roof", |choices| {
+            let [floor, roof, best] = diversities(choices);
+            floor <= best && best <= roof
+        }),
+        ("so it does at each smaller page count", |choices| {
+            in_each_column(choices, |[floor, roof, best]| floor <= best && best <= roof)
+        }),
+    ];
+
+    /// What might be thought to be promised and is not.
+    const MISTAKEN: [(&str, Promise); 12] = [
+        ("the sure set is the best", |[high, _, best]| {
+            high.marks == best.marks
+        }),
+        (
+            "the sure set is the best where the floor is the roof",
+            |choices| {
+                let [floor, roof, _] = diversities(choices);
+                floor < roof || choices[0].marks == choices[2].marks
+            },
+        ),
+        (
+            "the sure set is the best at low prices where the floor is the roof",
+            |choices| {
+                let [floor, roof, _] = diversities(choices);
+                floor < roof || choices[0].marks == choices[1].marks
+            },
+        ),
+        ("the best is the floor or the roof", |choices| {
+            let [floor, roof, best] = diversities(choices);
+            best == floor || best == roof
+        }),
+        ("the best is below a roof above the floor", |choices| {
+            let [floor, roof, best] = diversities(choices);
+            floor == roof || best < roof
+        }),
+        ("the best is above a floor below the roof", |choices| {
+            let [floor, roof, best] = diversities(choices);
+            floor == roof || best > floor
+        }),
+        ("the best has what is sure", |[high, _, best]| {
+            is_within(high, best)
+        }),
+        (
+            "what is best at low prices has the best",
+            |[_, low, best]| is_within(best, low),
+        ),
+        (
+            "the best has no more taxa than at low prices",
+            |[_, low, best]| best.answer[4] <= low.answer[4],
+        ),
+        (
+            "the best has no fewer taxa than are sure",
+            |[high, _, best]| best.answer[4] >= high.answer[4],
+        ),
+        (
+            "the best costs no more than the sure set at high prices",
+            |[high, _, best]| best.answer[3] <= high.answer[3],
+        ),
+        (
+            "the best costs no less than the sure set at high prices",
+            |[high, _, best]| best.answer[3] >= high.answer[3],
+        ),
+    ];
+
+    /// Of small ranges every outline between, by every subset.
+    #[test]
+    fn what_is_promised_is_kept_between_and_what_might_be_thought_is_not() {
+        let rng = &mut Random::new(6);
+        let mut broken = [0; MISTAKEN.len()];
+        for _ in 0..400 {
+            let (outlines, count) = some_small_range(rng);
+            let way = rng.up_to(1);
+            let chosen = |records: &[Record], rng: &mut Random| {
+                let call = Call::roomy(bytes(records), count, way, rng);
+                by_exhaustive_search(&call, rng)
+            };
+            let [low, high] = outlines.each_ref().map(|records| chosen(records, rng));
+            if high.answer[0] != 0 {
+                continue;
+            }
+            for records in every_between(&outlines) {
+                let best = chosen(&records, rng);
+                let choices = [&high, &low, &best];
+                for (name, holds) in KEPT {
+                    assert!(holds(choices), "{name}: {outlines:?}, {records:?}");
+                }
+                for (times, (_, holds)) in broken.iter_mut().zip(MISTAKEN) {
+                    *times += u32::from(!holds(choices));
+                }
+            }
+        }
+        for (times, (name, _)) in broken.into_iter().zip(MISTAKEN) {
+            assert!(times > 10, "{name}: {times}");
+        }
+    }
 }
