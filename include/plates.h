@@ -306,7 +306,7 @@
  *   roof. plates_check accepts that outline, and its locked taxa are not too dear (12).
  *
  * The low and the high outline are between, too. Where floor and roof are equal, the sure set has the best diversity whatever is
- * agreed.
+ * agreed. Where the locked taxa fit the count at low prices and not at high ones, no set is sure, and the call is refused (12).
  *
  * What is not promised: once prices are agreed another set may be better than the sure set, and need not have its plates. In the
  * table plate 12 is sure at count 5, and plates 11 and 13 are the best if plate 11 comes to cost 3. Nor need a plate that is sure at

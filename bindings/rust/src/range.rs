@@ -5,7 +5,7 @@ use crate::outline::Outline;
 use crate::refusal::Refusal;
 use crate::sys;
 
-/// The set of taxa that fits a page count for all prices between low and high, and two numbers that
+/// A set of taxa that fits a page count for all prices between low and high, and two numbers that
 /// the best diversity then lies between.
 ///
 /// The set is the best one at high prices, the sure set. Its diversity is the floor, and the best
