@@ -8,7 +8,7 @@ ghost use Rattle.refusals.specs.Refusals.{ruling, refusal as told, told as told_
 ghost use Rattle.outline.specs.Answer.{checked, found_at};
 ghost use Rattle.reading.specs.Answer.{call as reading, Numbers};
 ghost use Rattle.writing.specs.Answer.{call as writing};
-ghost use Rattle.choice.specs.Answer.{call};
+ghost use Rattle.choice.specs.Answer.{call, numbers_of};
 ghost use Rattle.quick.specs.Answer.{call as picking};
 ghost use Rattle.revise.specs.Answer.{call as revising};
 ghost use Rattle.range.specs.Answer.{call as ranging};
@@ -20,7 +20,7 @@ ghost use Rattle.view.specs.View.{house_view, buyer_view};
 ghost use Rattle.plates.specs.Interface.{Chosen, QuicklyChosen, LengthRevised, SurelyChosen, SheetListed, TextRead, TextWritten, Viewed, Formed, TreesCompared, Given, ruling_in};
 ghost use Rattle.outline.specs.Rules.{most_records};
 
-use choice::choose;
+use choice::{Figures, choose};
 use house::{compare, house_form};
 use outline::{check, find_record};
 use quick::quick;
@@ -43,6 +43,13 @@ fn refuse(refusal: Refusal, answer: &mut [u32]) -> u32
     answer[0] = refusal.number();
     answer[1] = refusal.place() as u32;
     answer[0]
+}
+
+// The six numbers of a choice.
+fn chosen(f: Figures) -> [u32; 6]
+    ensures { result ≡ 0 ∷ 0 ∷ numbers_of f }
+{
+    [0, 0, f.diversity, f.cost, f.taxa, f.spare]
 }
 
 // Writes number and place of what a function without figures answers; gives the number.
@@ -101,7 +108,7 @@ pub extern "C" fn plates_choose(
 {
     match choose(outline, count, way, marks, curve, work) {
         Ok(f) => {
-            *answer = [0, 0, f.diversity, f.cost, f.taxa, f.spare];
+            *answer = chosen(f);
             0
         }
         Err(refusal) => refuse(refusal, answer),
@@ -157,14 +164,7 @@ pub extern "C" fn plates_revise(
     match revise(outline, changed, to, count, way, marks, curve, work) {
         Ok(f) => {
             *moved = [f.moved.best, f.moved.length];
-            *answer = [
-                0,
-                0,
-                f.choice.diversity,
-                f.choice.cost,
-                f.choice.taxa,
-                f.choice.spare,
-            ];
+            *answer = chosen(f.choice);
             0
         }
         Err(refusal) => {
@@ -195,14 +195,7 @@ pub extern "C" fn plates_range(
     match range(low, high, count, way, marks, curve, work) {
         Ok(f) => {
             *roof = f.roof;
-            *answer = [
-                0,
-                0,
-                f.choice.diversity,
-                f.choice.cost,
-                f.choice.taxa,
-                f.choice.spare,
-            ];
+            *answer = chosen(f.choice);
             0
         }
         Err(refusal) => {
