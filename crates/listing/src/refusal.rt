@@ -12,6 +12,5 @@ pub fn put_refusal(pen: &mut Pen<u8>, refusal: Refusal)
 {
     let number = refusal.number() as u64;
     let place = refusal.place() as u64;
-    pen.put(b"refused");
-    pen.put_others(&[number, place]);
+    pen.put_labelled(b"refused", &[number, place]);
 }

@@ -31,6 +31,5 @@ pub fn put_sheet(pen: &mut Pen<u8>, o: &[u8], way: u32, marks: &[u8])
     let mut lent = [0u32; SHEET];
     let sums = sheet(o, way, marks, &mut lent).unwrap();
     put_taxa(pen, &lent, sums.rows as usize);
-    pen.put(b"total");
-    pen.put_others(&[sums.quarters as u64, sums.diversity as u64]);
+    pen.put_labelled(b"total", &[sums.quarters as u64, sums.diversity as u64]);
 }

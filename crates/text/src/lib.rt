@@ -3,7 +3,7 @@
 #![tactic(auto)]
 
 ghost use Rattle.std.specs.Prelude.{◌<◌, length};
-ghost use Rattle.text.specs.Text.{decimal, others, line};
+ghost use Rattle.text.specs.Text.{decimal, others, line, labelled};
 ghost use Rattle.text.specs.Written.{LongEnough, Put};
 
 use itoa::Buffer;
@@ -58,5 +58,14 @@ impl Pen<'_, u8> {
     {
         self.put_number(numbers[0]);
         self.put_others(&numbers[1..]);
+    }
+
+    // A line that begins with a word.
+    pub fn put_labelled(&mut self, label: &[u8], numbers: &[u64])
+        requires { LongEnough (labelled label.now numbers.now) self.old }
+        ensures { Put (labelled label.now numbers.now) self.old self.new }
+    {
+        self.put(label);
+        self.put_others(numbers);
     }
 }

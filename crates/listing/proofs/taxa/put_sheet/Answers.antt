@@ -3,7 +3,7 @@ use Rattle.std.proofs.Common.{◌≡◌, ℕ, List, [], ◌∷◌, ◌++◌, rep
 use Rattle.refusals.specs.Reply.{Reply}
 use Rattle.sheet.specs.declared.answer.Figures.{Figures}
 use Rattle.sheet.specs.Answer.{Call, call, Answered, judged, marked_set}
-use Rattle.text.specs.Text.{others, labelled}
+use Rattle.text.specs.Text.{labelled}
 use Rattle.text.specs.Written.{LongEnough}
 use Rattle.text.specs.declared.Pen.{Pen}
 use Rattle.text.proofs.Writing.{Left, left_starts, left_fits, left_goes}
@@ -16,8 +16,7 @@ use Rattle.listing.proofs.taxa.put_sheet.Goals as goal
 begun : (c : Call) {r : Reply Figures} {lent : List ℕ} (pen : Pen ℕ) → Answered c r lent → (judged c).number ≡ 0
     → LongEnough (sheet_text c.outline c.way (marked_set c)) pen
     → Left (sheet_text c.outline c.way (marked_set c)) pen
-    (taxa_text lent r.figures.rows ++ (total_word ++ others (r.figures.quarters ∷ r.figures.diversity ∷ []))) pen
-unfolding labelled
+    (taxa_text lent r.figures.rows ++ labelled total_word (r.figures.quarters ∷ r.figures.diversity ∷ [])) pen
 begun c pen x passes h =
     let whole = sheet_text c.outline c.way (marked_set c) in
     subst (λ t. Left whole pen t pen) (sheet_lines c x passes) (left_starts h)
@@ -40,25 +39,16 @@ put_taxa-requires c =
           (begun sheet a.pen.now told c.requires.listed c.requires.long_enough),
     )
 
-pub put-requires : goal.put-requires
-put-requires c =
+pub put_labelled-requires : goal.put_labelled-requires
+put_labelled-requires c =
     let a = c.args in
     let told = rw c.unwrap-sums.ensures at c.sheet.ensures in
     let start = begun (called a.o.now a.way a.marks.now) a.pen.now told c.requires.listed c.requires.long_enough in
-    left_fits total_word _ (left_goes (taxa_text c.sheet.new.sheet c.unwrap-sums.result.rows) _ start c.put_taxa.ensures)
-
-pub put_others-requires : goal.put_others-requires
-put_others-requires c =
-    let a = c.args in
-    let told = rw c.unwrap-sums.ensures at c.sheet.ensures in
-    let start = begun (called a.o.now a.way a.marks.now) a.pen.now told c.requires.listed c.requires.long_enough in
-    let rows = left_goes (taxa_text c.sheet.new.sheet c.unwrap-sums.result.rows) _ start c.put_taxa.ensures in
-    (left_goes total_word _ rows c.put.ensures).fits
+    (left_goes (taxa_text c.sheet.new.sheet c.unwrap-sums.result.rows) _ start c.put_taxa.ensures).fits
 
 pub returns : goal.returns
 returns c =
     let a = c.args in
     let told = rw c.unwrap-sums.ensures at c.sheet.ensures in
     let start = begun (called a.o.now a.way a.marks.now) a.pen.now told c.requires.listed c.requires.long_enough in
-    let rows = left_goes (taxa_text c.sheet.new.sheet c.unwrap-sums.result.rows) _ start c.put_taxa.ensures in
-    (left_goes total_word _ rows c.put.ensures).completes c.put_others.ensures
+    (left_goes (taxa_text c.sheet.new.sheet c.unwrap-sums.result.rows) _ start c.put_taxa.ensures).completes c.put_labelled.ensures
