@@ -25,7 +25,7 @@
  *     plates_house_form   the house form of an outline, one for all outlines of the same tree
  *     plates_compare      whether two outlines are the same tree, and if not which of the two trees comes first
  *
- * Link with libplates.a (-lplates). It needs nothing but memcpy, memmove and memset, which every C library has.
+ * Link with libplates.a (-lplates). It needs nothing but memcpy and memset, which every C library has.
  *
  * Words
  *
