@@ -12,10 +12,12 @@ use lib.Seq.{drop-cons, drop-drop, take_all, get_or-drop}
 use borrow.Author.Tests.{lt-ltb, le-ltb}
 use Rattle.std.specs.Char.{is_ascii_digit}
 use Rattle.std.specs.List.{prefix_len}
+use Rattle.std.proofs.lemmas.List.Sums.{prefix_len-le-length}
 use Rattle.newick.proofs.Signs.{digit_test, digit_range}
 use Rattle.newick.specs.Parsing.{sign_of, digit_sign, is_digit, ended, tokens_by, tokens_from, tokens_of}
-use Rattle.newick.specs.Inner.{BeginsNumber, Met, token_of}
+use Rattle.newick.specs.Inner.{BeginsNumber, Met, token_of, Overlong, Tokenless}
 use Rattle.newick.specs.declared.sign.Sign.{Sign}
+use Rattle.newick.specs.declared.token.NoToken.{NoToken}
 use Rattle.newick.specs.declared.token.Token.{Token}
 
 -- what holds of tokens, by the first of them
@@ -172,17 +174,22 @@ module _ {text : List ℕ} {i v : ℕ} (k : Counting text i v) (h : i < length t
       go (suc m) z = omega arith
 
   -- it is a tenth digit
-  pub counting_fails : is_ascii_digit (get_or text i 0) ≡ true → i ≡ 9 → {n : ℕ} → n ≡ prefix_len is_ascii_digit left → n ≤ length left
-      → Met text Token.Other (take (length left - n) (drop n left))
-  counting_fails d z {n} e l =
-      let r = rest_from text i in
+  pub counting_fails : is_ascii_digit (get_or text i 0) ≡ true → i ≡ 9 → Overlong text left
+  counting_fails d z =
+      let s = drop i text in
+      let n = prefix_len is_ascii_digit s in
       let some : 1 ≤ n =
-      rw (e, r, drop-cons text i 0 h) (subst (λ t. 1 ≤ cond t (1 + prefix_len is_ascii_digit (drop (suc i) text)) 0) (sym d) (omega arith)) in
-      let same : drop n left ≡ drop (i + n) text = ap (drop n) r ∙ drop-drop n i text in
-      subst (Met text Token.Other) (sym same ∙ sym (rest_from left n))
-      (met_at (i + n) (omega arith) (omega (arith, l, ap length r, length-drop i text))
-      (k.whole ∙ ap (tokens_from i v) (sym r) ∙ overlong i v left (omega arith)
-      ∙ ap (λ m. Token.Other ∷ tokens_of (drop m left)) (sym e) ∙ ap (λ s. Token.Other ∷ tokens_of s) same))
+      rw (drop-cons text i 0 h) (subst (λ t. 1 ≤ cond t (1 + prefix_len is_ascii_digit (drop (suc i) text)) 0) (sym d) (omega arith)) in
+      let same : drop n s ≡ drop (i + n) text = drop-drop n i text in
+      subst (Overlong text) (sym (rest_from text i))
+      record {
+        met =
+            subst (Met text Token.Other) (sym same)
+            (met_at (i + n) (omega arith) (omega (arith, prefix_len-le-length is_ascii_digit s, length-drop i text))
+            (k.whole ∙ overlong i v s (omega arith) ∙ ap (λ u. Token.Other ∷ tokens_of u) same));
+        shorter = rw length-drop (omega arith);
+        digits_are = last_from text i (omega arith);
+      }
 
 -- the text ends
 pub counting_last : {text : List ℕ} {i v : ℕ} → Counting text i v → length text ≤ i → 0 < length text → Met text (Token.Number v) []
@@ -219,23 +226,40 @@ module _ {text : List ℕ} {i : ℕ} (k : Skipping text i) (h : i < length text)
   abbrev here : Sign
   here = sign_of (get_or text i 0)
 
+  abbrev number : List ℕ
+  number = take (length text - i) (drop i text)
+
   pub skipping_goes : Sign.Blank ≡ here → Skipping text (i + 1)
   skipping_goes e = record { whole = k.whole ∙ (tokens_at text i Sign.Blank h e).1 }
 
   -- a number begins here
-  pub skipping_begins : Sign.Digit ≡ here → BeginsNumber (take (length text - i) (drop i text))
+  pub skipping_begins : Sign.Digit ≡ here → BeginsNumber number
   skipping_begins e =
       rw (rest_from text i)
       record { inside = rw length-drop (omega arith); digit = rw (get_or-drop, add-zero) (ap digit_sign (sym e)) }
 
-  pub skipping_number : {t : Token} {rest : List ℕ} → Met (take (length text - i) (drop i text)) t rest → Met text t rest
-  skipping_number {t} {rest} m =
-      let q = subst (λ s. Met s t rest) (rest_from text i) m in
-      record {
-        shows = k.whole ∙ q.shows;
-        shorter = omega (arith, q.shorter, length-drop i text);
-        rest_is = last_of_last _ _ _ (omega (arith, length-drop i text)) (omega (arith, q.shorter)) (last_from text i (omega arith)) q.rest_is;
-      }
+  -- what is left of it are the text's own last bytes
+  number_last : {rest : List ℕ} → length rest < length number → rest ≡ drop (length number - length rest) number
+      → (length rest < length text) × (rest ≡ drop (length text - length rest) text)
+  number_last {rest} l e =
+      let same : number ≡ drop i text = rest_from text i in
+      let long = length-drop i text in (
+        omega (arith, l, ap length same),
+        last_of_last text number rest (omega (arith, ap length same)) (omega (arith, l))
+            (same ∙ last_from text i (omega arith) ∙ ap (λ s. drop (length text - length s) text) (sym same)) e,
+      )
+
+  pub skipping_number : {t : Token} {rest : List ℕ} → Met number t rest → Met text t rest
+  skipping_number m =
+      let last = number_last m.shorter m.rest_is in
+      record { shows = k.whole ∙ ap tokens_of (sym (rest_from text i)) ∙ m.shows; shorter = last.0; rest_is = last.1 }
+
+  -- and one that is too long
+  pub skipping_tokenless : (why : NoToken) → Tokenless number why → Tokenless text why
+  skipping_tokenless NoToken.Nothing e = k.whole ∙ ap tokens_of (sym (rest_from text i)) ∙ e
+  skipping_tokenless (NoToken.Overlong digits) o =
+      let last = number_last o.shorter o.digits_are in
+      record { met = skipping_number o.met; shorter = last.0; digits_are = last.1 }
 
   pub skipping_meets : {s : Sign} → s ≡ here → (s ≡ Sign.Blank → ⊥) → (s ≡ Sign.Digit → ⊥) → {t : Token} → t ≡ token_of s
       → Met text t (take (length text - (i + 1)) (drop (i + 1) text))

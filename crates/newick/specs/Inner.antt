@@ -1,9 +1,12 @@
 -- What the code and the arguments on texts speak of: tokens, the plates of an outline, and trees whose numbers can be spelled.
 use Rattle.std.specs.Prelude.{if◌then◌else◌, ℕ, ◌-◌, ◌≤◌, ◌<◌, ◌≡◌, true, List, [], ◌∷◌, length, get_or, drop}
+use Rattle.std.specs.Char.{is_ascii_digit}
+use Rattle.std.specs.List.{prefix_len}
 use Rattle.outline.specs.Outline.{records, plate, is_taxon}
 use Rattle.newick.specs.Grammar.{Kind, part, chain, Tree, taxon, group, last, more, most_number}
 use Rattle.newick.specs.Parsing.{tokens_of, is_digit}
 use Rattle.newick.specs.declared.sign.Sign.{Sign}
+use Rattle.newick.specs.declared.token.NoToken.{NoToken}
 use Rattle.newick.specs.declared.token.Token.{Token}
 
 -- ---- tokens
@@ -29,6 +32,17 @@ pub record Met (text : List ℕ) (token : Token) (rest : List ℕ) : Type 0 wher
   pub shows : tokens_of text ≡ token ∷ tokens_of rest
   pub shorter : length rest < length text
   pub rest_is : rest ≡ drop (length text - length rest) text
+
+-- the first token is a number of too many digits, and this is left of the text from one of them on: the token ends with the last of them
+pub record Overlong (text digits : List ℕ) : Type 0 where
+  pub met : Met text Token.Other (drop (prefix_len is_ascii_digit digits) digits)
+  pub shorter : length digits < length text
+  pub digits_are : digits ≡ drop (length text - length digits) text
+
+-- why the first token of a text is not given
+abbrev pub Tokenless : List ℕ → NoToken → Type 0
+Tokenless text NoToken.Nothing = tokens_of text ≡ []
+Tokenless text (NoToken.Overlong digits) = Overlong text digits.now
 
 -- ---- plates
 

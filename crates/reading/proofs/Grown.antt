@@ -11,7 +11,8 @@ use Rattle.newick.specs.Layout.{layout}
 use Rattle.newick.specs.Parsing.{tokens_of, ends, Outcome, got, read_in, closed, unread, tree, grown}
 use Rattle.outline.specs.Rules.{most_records}
 use Rattle.newick.specs.declared.token.Token.{Token}
-use Rattle.reading.specs.Inner.{left_of, IfGot, if_failed, if_got, Fresh, Drafted, Short, short_failed, short_ended, Unread, unread_bad, unread_many, PartRead, TreeDrafted, NotDrafted, no_tree, large_tree}
+use Rattle.reading.specs.Inner.{left_of, IfGot, if_failed, if_got, Fresh, Drafted, at_end, no_word, Short, short_failed, short_stuck}
+use Rattle.reading.specs.Inner.{Unread, unread_bad, unread_many, PartRead, TreeDrafted, NotDrafted, no_tree, large_tree}
 use Rattle.reading.specs.declared.cursor.Cursor.{Cursor}
 use Rattle.reading.specs.declared.draft.Draft.{Draft}
 use Rattle.reading.specs.declared.draft.Part.{Part}
@@ -40,7 +41,8 @@ closes text ts t e b f = ap closed e ∙ ap (λ c. if c then tree t else unread)
 closed_short : {o : Outcome part} → Short o → closed o ≡ unread
 unfolding ends
 closed_short short_failed = refl
-closed_short short_ended = refl
+closed_short (short_stuck at_end) = refl
+closed_short (short_stuck no_word) = refl
 
 module _ {pairs text : List ℕ} {start : Draft} (f : Fresh text pairs start) where
   pub tree_unread : {flaw : Flaw} → Unread part Short start.cursor flaw → NotDrafted text flaw

@@ -1,14 +1,40 @@
--- What follows a part, by the tokens: a number after a colon, a length, a token.
+-- The next token, and what follows a part, by the tokens: a number after a colon, a length, a token.
 use Prim.Native.Nat.{ℕ}
 use mathlib.Core.Path.{◌≡◌, refl, sym, ap, subst, ◌∙◌}
-use mathlib.Core.List.{List, [], ◌∷◌}
+use mathlib.Core.List.{List, ◌∷◌}
 use native.Mathlib.Omega.{arith}
+use Rattle.std.specs.Prelude.{None, Some, Result, Ok, Err, MatchOption, MatchResult}
+use Rattle.std.proofs.Common.{Bor}
+use Rattle.std.specs.Result.{result_ok}
 use Rattle.newick.specs.Grammar.{part, Tree}
-use Rattle.newick.specs.Inner.{Met}
+use Rattle.newick.specs.Inner.{Met, Tokenless}
 use Rattle.newick.specs.Parsing.{tokens_of, failed, got, with_number, with_length}
+use Rattle.newick.specs.declared.token.NoToken.{NoToken}
 use Rattle.newick.specs.declared.token.Token.{Token}
 use Rattle.newick.proofs.Tokens.{last_of_last}
-use Rattle.reading.specs.Inner.{NoNumber, NumberRead, Short, short_failed, short_ended, Stopped, Followed}
+use Rattle.reading.specs.Inner.{Stuck, at_end, no_word, NoNumber, NumberRead, Short, short_failed, short_stuck, Stopped, Followed}
+
+-- ---- the next token
+stuck_at : (text : List ℕ) (why : NoToken) → Tokenless text why → Stuck (tokens_of text)
+stuck_at text NoToken.Nothing e = subst Stuck (sym e) at_end
+stuck_at text (NoToken.Overlong digits) o = subst Stuck (sym o.met.shows) no_word
+
+-- a token of which a tree can make something, or none
+module _ (text : List ℕ) (r : Result (Token × Bor (List ℕ)) NoToken)
+    (m : MatchResult r (λ found. Met text found.0 found.1.now) (Tokenless text)) where
+  by_token : MatchOption (result_ok r) (Stuck (tokens_of text)) (λ found. Met text found.0 found.1.now)
+  by_token = go r m
+    where
+      go : (r : Result (Token × Bor (List ℕ)) NoToken) → MatchResult r (λ found. Met text found.0 found.1.now) (Tokenless text)
+          → MatchOption (result_ok r) (Stuck (tokens_of text)) (λ found. Met text found.0 found.1.now)
+      go (Ok found) m = m
+      go (Err why) m = stuck_at text why m
+
+  pub met_next : {token : Token} {rest : Bor (List ℕ)} → Some (token, rest) ≡ result_ok r → Met text token rest.now
+  met_next e = rw (← e) at by_token
+
+  pub stuck_next : None ≡ result_ok r → Stuck (tokens_of text)
+  stuck_next e = rw (← e) at by_token
 
 -- ---- the number after a colon
 number_fails : (t : Token) → ((l : ℕ) → t ≡ Token.Number l → ⊥) → (made : ℕ → Tree part) (ts : List Token) → with_number made (t ∷ ts) ≡ failed
@@ -21,9 +47,13 @@ number_fails Token.Semicolon o made ts = refl
 number_fails (Token.Number l) o made ts = absurd (o l refl)
 number_fails Token.Other o made ts = refl
 
-pub number_nowhere : (text : List ℕ) → tokens_of text ≡ [] → NoNumber text
+number_stuck : (made : ℕ → Tree part) {ts : List Token} → Stuck ts → with_number made ts ≡ failed
 unfolding with_number
-number_nowhere text e made = ap (with_number made) e
+number_stuck made at_end = refl
+number_stuck made no_word = refl
+
+pub number_nowhere : (text : List ℕ) → Stuck (tokens_of text) → NoNumber text
+number_nowhere text s made = number_stuck made s
 
 module _ {text rest : List ℕ} {s : Token} (m : Met text s rest) where
   pub number_missing : ((l : ℕ) → s ≡ Token.Number l → ⊥) → NoNumber text
@@ -45,10 +75,14 @@ no_colon Token.Semicolon o made ts = refl
 no_colon (Token.Number l) o made ts = refl
 no_colon Token.Other o made ts = refl
 
--- nothing is left
-pub stops_nowhere : (text : List ℕ) → tokens_of text ≡ [] → Stopped text
+-- no token
+length_stuck : (made : ℕ → Tree part) {ts : List Token} → Stuck ts → Short (with_length made ts)
 unfolding with_length
-stops_nowhere text e made = subst Short (sym (ap (with_length made) e)) short_ended
+length_stuck made at_end = short_stuck at_end
+length_stuck made no_word = short_stuck no_word
+
+pub stops_nowhere : (text : List ℕ) → Stuck (tokens_of text) → Stopped text
+stops_nowhere text s made = length_stuck made s
 
 module _ {text rest : List ℕ} {s : Token} (m : Met text s rest) where
   -- another token than a colon
@@ -70,9 +104,9 @@ module _ {text rest : List ℕ} {s : Token} (m : Met text s rest) where
     colon_stops g made = subst Short (sym (at_colon made ∙ g made)) short_failed
 
     module _ {l : ℕ} {past : List ℕ} (g : NumberRead rest l past) where
-      -- and nothing follows the length, or a token
-      pub length_stops : tokens_of past ≡ [] → Stopped text
-      length_stops z made = subst Short (sym (at_colon made ∙ g.reads made ∙ ap (got (made l)) z)) short_ended
+      -- and no token follows the length, or one does
+      pub length_stops : Stuck (tokens_of past) → Stopped text
+      length_stops z made = subst Short (sym (at_colon made ∙ g.reads made)) (short_stuck z)
 
       pub length_follows : {t : Token} {after : List ℕ} → Met past t after → Followed text l t after
       length_follows n =

@@ -1,7 +1,7 @@
 -- Parts and lists of parts: what the readers find, by the tokens and by the calls before.
 use Prim.Native.Nat.{ℕ, zero, suc, ◌+◌, ◌*◌, ◌≤◌, ◌<◌}
 use mathlib.Core.Path.{◌≡◌, refl, sym, ap, subst, ◌∙◌}
-use mathlib.Core.List.{List, [], ◌∷◌}
+use mathlib.Core.List.{List, ◌∷◌}
 use native.Mathlib.Omega.{arith}
 use lib.ListN.{length}
 use Rattle.std.specs.Prelude.{Result, Ok, Err, MatchResult}
@@ -15,8 +15,8 @@ use Rattle.newick.specs.declared.token.Token.{Token}
 use Rattle.newick.proofs.Layouts.{count_some}
 use Rattle.newick.proofs.Tokens.{by_first}
 use Rattle.outline.specs.Rules.{most_records}
-use Rattle.reading.specs.Inner.{left_of, Begun, Full, Moved, Ended, Lengthened, Cut, Drafted, fields_of, below, record_of, Short, short_failed, short_ended}
-use Rattle.reading.specs.Inner.{IfGot, if_failed, if_got, Failed, Unread, unread_bad, unread_many, PartRead, ListRead}
+use Rattle.reading.specs.Inner.{left_of, Begun, Full, Moved, Stuck, at_end, no_word, Ended, Lengthened, Cut, Drafted, fields_of, below, record_of}
+use Rattle.reading.specs.Inner.{Short, short_failed, short_stuck, IfGot, if_failed, if_got, Failed, Unread, unread_bad, unread_many, PartRead, ListRead}
 use Rattle.reading.specs.declared.cursor.Cursor.{Cursor}
 use Rattle.reading.specs.declared.draft.Draft.{Draft}
 use Rattle.reading.specs.declared.draft.Part.{Part}
@@ -96,6 +96,12 @@ no_part Token.Semicolon o v f ts = refl
 no_part (Token.Number p) o v f ts = absurd (v p refl)
 no_part Token.Other o v f ts = refl
 
+-- none begins where the text is stuck
+pub stuck_part : (f : List Token → Outcome chain) {ts : List Token} → Stuck ts → part_from f ts ≡ failed
+unfolding part_from
+stuck_part f at_end = refl
+stuck_part f no_word = refl
+
 -- a part that fails is short
 fails_short : {o : Outcome part} → o ≡ failed → Short o
 fails_short e = subst Short (sym e) short_failed
@@ -107,15 +113,14 @@ module _ (from : Cursor) where
 
 -- a record begins
 module _ {from begun : Cursor} {k : ℕ} (b : Begun from begun k) where
-  -- nothing is left
+  -- and no token is passed
   pub part_nowhere : {flaw : Flaw} → Ended begun flaw → Unread part Short from flaw
-  unfolding part_from
   part_nowhere e =
-      let none : tokens_of (left_of from) ≡ [] = ap tokens_of (sym b.left_stays) ∙ e.none in
+      let stuck : Stuck (tokens_of (left_of from)) = subst (λ s. Stuck (tokens_of s)) b.left_stays e.stuck in
       subst (Unread part Short from) (sym e.is)
-      (unread_bad (λ n b. fails_short (part_by_lem _ _ _ (λ n _. ap (part_from (read_in n chain)) none) n b)))
+      (unread_bad (λ n b. fails_short (part_by_lem _ _ _ (λ n _. stuck_part (read_in n chain) stuck) n b)))
 
-  -- and a token is passed
+  -- or one is
   module _ {to : Cursor} {s : Token} (m : Moved begun to s) where
     begins : (n : ℕ) (t : Token) → s ≡ t
         → part_from (read_in n chain) (tokens_of (left_of from)) ≡ part_from (read_in n chain) (t ∷ tokens_of (left_of to))
@@ -227,10 +232,11 @@ no_next (Token.Number p) a o f t ts = refl
 no_next Token.Other a o f t ts = refl
 
 -- a list that begins with a short part fails
-chain_short : (f : List Token → Outcome chain) {o : Outcome part} → Short o → chain_from f o ≡ failed
+pub chain_short : (f : List Token → Outcome chain) {o : Outcome part} → Short o → chain_from f o ≡ failed
 unfolding chain_then
 chain_short f short_failed = refl
-chain_short f short_ended = refl
+chain_short f (short_stuck at_end) = refl
+chain_short f (short_stuck no_word) = refl
 
 pub list_unread : {from : Cursor} {flaw : Flaw} → Unread part Short from flaw → Unread chain Failed from flaw
 list_unread (unread_bad g) = unread_bad (list_by _ _ _ (λ n h. chain_short (read_in n chain) (g n (omega arith))))

@@ -3,7 +3,7 @@ use Rattle.std.specs.Prelude.{if◌then◌else◌, Option, None, Some}
 use Prim.Native.Nat.{ℕ, suc, ◌+◌, ◌*◌, ◌-◌, ◌≤◌, ◌<◌}
 use mathlib.Core.Path.{◌≡◌, refl, sym, ap, subst, ◌∙◌}
 use mathlib.Core.Bool.{Bool, true, false}
-use mathlib.Core.List.{List, [], ◌∷◌}
+use mathlib.Core.List.{List, ◌∷◌}
 use native.Mathlib.Numerals.{add-one}
 use native.Mathlib.Omega.{arith}
 use lib.ListN.{length}
@@ -12,11 +12,11 @@ use Rattle.newick.specs.Inner.{Met}
 use Rattle.newick.specs.Parsing.{tokens_of, Outcome, failed, got, with_length, grouped, part_from, joined, chain_then, chain_from, read_in}
 use Rattle.newick.specs.Parsing.{ends, Parsed, unread, tree, closed, grown}
 use Rattle.newick.specs.declared.token.Token.{Token}
-use Rattle.reading.specs.Inner.{Short, short_failed, short_ended, Stopped, Followed}
+use Rattle.reading.specs.Inner.{Stuck, at_end, no_word, Short, short_failed, short_stuck, Stopped, Followed}
 use Rattle.reading.specs.Scan.{is_tree, grouped_as, Lists, no_list, a_list, Inside, Wanted, Taken}
 use Rattle.reading.specs.Scan.{FromTaxon, FromPart}
 use Rattle.reading.specs.declared.place.Place.{Place}
-use Rattle.reading.proofs.Parts.{no_part, no_next}
+use Rattle.reading.proofs.Parts.{no_part, stuck_part, no_next, chain_short}
 
 -- ---- open lists
 
@@ -48,8 +48,10 @@ module _ {whole : Parsed} {n d : ℕ} {o : Outcome part} (i : Inside whole n d o
     where
       go : {o : Outcome part} {d : ℕ} {onward : Outcome part → Parsed} → Short o → Lists n d onward → is_tree (onward o) ≡ false
       go short_failed ls = ap is_tree (lists_failed ls)
-      go short_ended no_list = unfold ends in refl
-      go short_ended (a_list calls many made ls) = unfold chain_then in ap is_tree (lists_failed ls)
+      go (short_stuck at_end) no_list = unfold ends in refl
+      go (short_stuck no_word) no_list = unfold ends in refl
+      go (short_stuck s) (a_list {onward = onward} calls many made ls) =
+          ap is_tree (ap (λ o. onward (grouped_as made o)) (chain_short (read_in calls chain) (short_stuck s)) ∙ lists_failed ls)
 
   -- what is read is read as well where less is left
   inside_later : {m : ℕ} {u : Outcome part} → m ≤ n → o ≡ u → Inside whole m d u
@@ -89,9 +91,8 @@ module _ {whole : Parsed} {text : List ℕ} {depth : ℕ} (k : Wanted whole text
   abbrev reader : List Token → Outcome chain
   reader = read_in k.calls chain
 
-  pub wanted_nowhere : tokens_of text ≡ [] → is_tree whole ≡ false
-  unfolding part_from
-  wanted_nowhere e = inside_fails k.inside (ap (part_from reader) e)
+  pub wanted_nowhere : Stuck (tokens_of text) → is_tree whole ≡ false
+  wanted_nowhere s = inside_fails k.inside (stuck_part reader s)
 
   module _ {rest : List ℕ} {s : Token} (m : Met text s rest) where
     pub wanted_fails : (s ≡ Token.Open → ⊥) → ((q : ℕ) → s ≡ Token.Number q → ⊥) → is_tree whole ≡ false
@@ -128,8 +129,8 @@ module _ {start : List ℕ} {outer : ℕ} {text : List ℕ} {depth : ℕ} (d : D
   leads_nowhere : ((whole : Parsed) → Wanted whole text depth → is_tree whole ≡ false) → FromTaxon start outer None
   leads_nowhere f = record { taken = λ whole w. f whole (d.wanted whole w); shorter = tt }
 
-  pub descending_ends : tokens_of text ≡ [] → FromTaxon start outer None
-  descending_ends e = leads_nowhere (λ _ w. wanted_nowhere w e)
+  pub descending_ends : Stuck (tokens_of text) → FromTaxon start outer None
+  descending_ends s = leads_nowhere (λ _ w. wanted_nowhere w s)
 
   module _ {rest : List ℕ} {s : Token} (m : Met text s rest) where
     pub descending_fails : (s ≡ Token.Open → ⊥) → ((q : ℕ) → s ≡ Token.Number q → ⊥) → FromTaxon start outer None

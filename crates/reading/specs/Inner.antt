@@ -41,10 +41,15 @@ pub record Moved (from to : Cursor) (token : Token) : Type 0 where
   pub met : Met (left_of from) token (left_of to)
   pub records_stay : to.records ≡ from.records
 
--- or no token is left
+-- no token is left, or one that no tree can contain
+pub data Stuck : List Token → Type 0 where
+  at_end : Stuck []
+  no_word : {ts : List Token} → Stuck (Token.Other ∷ ts)
+
+-- or the place is stuck there
 pub record Ended (from : Cursor) (flaw : Flaw) : Type 0 where
   pub is : flaw ≡ Flaw.Malformed
-  pub none : tokens_of (left_of from) ≡ []
+  pub stuck : Stuck (tokens_of (left_of from))
 
 -- ---- drafting
 
@@ -80,10 +85,10 @@ pub record NumberRead (text : List ℕ) (l : ℕ) (rest : List ℕ) : Type 0 whe
   pub shorter : length rest < length text
   pub rest_is : rest ≡ drop (length text - length rest) text
 
--- a part that fails, or that nothing follows
+-- a part that fails, or that nothing follows which a tree can contain
 pub data Short : Outcome part → Type 0 where
   short_failed : Short failed
-  short_ended : {t : Tree part} → Short (got t [])
+  short_stuck : {t : Tree part} {ts : List Token} → Stuck ts → Short (got t ts)
 
 -- what is a part but for its length is such a part
 abbrev pub Stopped : List ℕ → Type 0
@@ -100,7 +105,7 @@ pub record Lengthened (from to : Cursor) (l : ℕ) (token : Token) : Type 0 wher
   pub followed : Followed (left_of from) l token (left_of to)
   pub records_stay : to.records ≡ from.records
 
--- or there is no such length, or no token after it
+-- or there is no such length, or no such token after it
 pub record Cut (from : Cursor) (flaw : Flaw) : Type 0 where
   pub is : flaw ≡ Flaw.Malformed
   pub stopped : Stopped (left_of from)

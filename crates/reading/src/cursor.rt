@@ -4,7 +4,7 @@ ghost use Rattle.outline.specs.Rules.{most_records};
 
 use super::flaw::Flaw;
 use super::length::follow;
-use newick::token::{Token, first_token};
+use newick::token::{Token, read_token};
 use outline::limits::MOST_RECORDS;
 
 // Where the rest of a text begins, and how many records have begun before it.
@@ -44,7 +44,7 @@ impl<'a> Cursor<'a> {
     pub fn next_token(&mut self) -> Result<Token, Flaw>
         ensures { MatchResult result (Moved self.old self.new) (Ended self.old) }
     {
-        let (token, rest) = first_token(self.left()).ok_or(Flaw::Malformed)?;
+        let (token, rest) = read_token(self.left()).ok().ok_or(Flaw::Malformed)?;
         self.at = self.text.len() - rest.len();
         Ok(token)
     }

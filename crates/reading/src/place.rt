@@ -4,7 +4,7 @@
 ghost use Rattle.std.specs.Prelude.{◌+◌, ◌<◌, ◌^◌, length};
 
 use super::length::follow;
-use newick::token::{Token, first_token};
+use newick::token::{Token, read_token};
 
 // A place after a part with its length: the token that follows, what is left of the text after it, and how many lists are open.
 #[derive(Clone, Copy)]
@@ -26,7 +26,7 @@ impl<'a> Place<'a> {
         let mut text = text;
         let mut depth = depth;
         loop {
-            let (token, rest) = first_token(text)?;
+            let (token, rest) = read_token(text).ok()?;
             match token {
                 Token::Open => {
                     text = rest;

@@ -2,7 +2,7 @@
 ghost use Rattle.std.specs.Prelude.{◌≤◌, length, MatchResult};
 ghost use Rattle.newick.specs.Grammar.{most_bytes};
 ghost use Rattle.reading.specs.Answer.{call, told, Answered, Numbers};
-ghost use Rattle.reading.specs.Inner.{TreeDrafted, NotDrafted, Whole, TreePlaced};
+ghost use Rattle.reading.specs.Inner.{left_of, Fresh, TreeDrafted, NotDrafted, Whole, TreePlaced};
 
 use super::answer::Figures;
 use super::draft::Draft;
@@ -14,17 +14,20 @@ use refusals::Refusal;
 
 const MOST_BYTES: usize = 16384;
 
-// Drafts the records of a text's tree.
-fn draft_tree<'a>(text: &'a [u8], pairs: &'a [u32]) -> Result<Draft<'a>, Flaw>
-    ensures { MatchResult result (TreeDrafted pairs.now text.now) (NotDrafted text.now) }
+// Drafts the records of a text's tree, where nothing is drafted yet. The draft is lent: handed back in the answer, its two kilobytes were copied at
+// each step, which was most of the time of a small tree.
+fn draft_tree(draft: &mut Draft<'_>) -> Result<(), Flaw>
+    requires { Fresh (left_of draft.old.cursor) draft.old.pairs.now draft.old }
+    ensures { MatchResult result
+        (λ _. TreeDrafted draft.old.pairs.now (left_of draft.old.cursor) draft.new)
+        (NotDrafted (left_of draft.old.cursor)) }
 {
-    let mut draft = Draft::new(text, pairs);
     let (part, token) = draft.read_part()?;
     if !ends(token, draft.cursor.left()) {
         return Err(Flaw::Malformed);
     }
     draft.draft_record(0, 0, part);
-    Ok(draft)
+    Ok(())
 }
 
 // Judges a drafted outline, and writes it where no row holds.
@@ -50,8 +53,9 @@ fn read_short(text: &[u8], pairs: &[u32], outline: &mut [u8]) -> Result<Figures,
     requires { length text.now ≤ most_bytes }
     ensures { Answered (call text.now pairs.now outline.old) (told result) outline.new }
 {
-    match draft_tree(text, pairs) {
-        Ok(draft) => {
+    let mut draft = Draft::new(text, pairs);
+    match draft_tree(&mut draft) {
+        Ok(()) => {
             let end = 16 * draft.cursor.records;
             place(&draft.bytes[..end], pairs, outline)
         }

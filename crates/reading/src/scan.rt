@@ -1,17 +1,28 @@
 // Whether a text is a tree, and what ends it.
 ghost use Rattle.std.specs.Prelude.{◌≡◌, false, ◌∷◌, MatchOption};
-ghost use Rattle.newick.specs.Parsing.{tokens_of, ends, grown};
+ghost use Rattle.newick.specs.Parsing.{tokens_of, nothing, ends, grown};
 ghost use Rattle.reading.specs.Scan.{is_tree};
 
 use super::place::Place;
-use newick::token::{Token, first_token};
+use newick::token::{NoToken, Token, read_token};
+
+// Whether nothing but blanks is left.
+fn is_blank(text: &[u8]) -> bool
+    ensures { result ≡ nothing (tokens_of text.now) }
+{
+    match read_token(text) {
+        Ok(_) => false,
+        Err(NoToken::Overlong(_)) => false,
+        Err(NoToken::Nothing) => true,
+    }
+}
 
 // Whether a token is the semicolon, and nothing but blanks is left after it.
 pub fn ends(token: Token, rest: &[u8]) -> bool
     ensures { result ≡ ends (token ∷ tokens_of rest.now) }
 {
     match token {
-        Token::Semicolon => first_token(rest).is_none(),
+        Token::Semicolon => is_blank(rest),
         _ => false,
     }
 }

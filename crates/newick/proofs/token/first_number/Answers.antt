@@ -10,7 +10,6 @@ returns-then-not-is_ascii_digit c =
 pub returns-then-i-eq-MOST_DIGITS : goal.returns-then-i-eq-MOST_DIGITS
 returns-then-i-eq-MOST_DIGITS c =
     counting_fails c.loop-i.invariant c.loop-i-test.true (sym c.if-not-is_ascii_digit.ensures.value) c.if-i-eq-MOST_DIGITS.true
-    c.leading_digits.ensures.count c.leading_digits.ensures.within
 
 pub overflow_mul-value : goal.overflow_mul-value
 overflow_mul-value c = omega (arith, small_value _ _ (omega arith) c.loop-i.invariant.small)

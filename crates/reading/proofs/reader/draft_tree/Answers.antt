@@ -6,10 +6,10 @@ use Rattle.reading.proofs.reader.draft_tree.Goals as goal
 
 pub returns-in_err-part : goal.returns-in_err-part
 returns-in_err-part c =
-    rw (handed_on _ c.from_residual.ensures.1) (tree_unread c.new-draft.ensures c.in_err-part.ensures)
+    rw (handed_on _ c.from_residual.ensures.1) (tree_unread c.requires c.in_err-part.ensures)
 
 pub returns-then-not-ends : goal.returns-then-not-ends
-returns-then-not-ends c = tree_open c.new-draft.ensures c.in_ok-part.ensures (rw c.left.ensures at c.if-not-ends.ensures)
+returns-then-not-ends c = tree_open c.requires c.in_ok-part.ensures (rw c.left.ensures at c.if-not-ends.ensures)
 
 pub returns : goal.returns
-returns c = tree_reads c.new-draft.ensures c.in_ok-part.ensures (search rules) (rw c.left.ensures at c.if-not-ends.ensures) c.draft_record.ensures
+returns c = tree_reads c.requires c.in_ok-part.ensures (search rules) (rw c.left.ensures at c.if-not-ends.ensures) c.draft_record.ensures

@@ -3,7 +3,7 @@ use Rattle.reading.proofs.Endings.{ended, not_ended}
 use Rattle.reading.proofs.scan.ends.Goals as goal
 
 pub returns-in-Semicolon : goal.returns-in-Semicolon
-returns-in-Semicolon c = ended _ c.in-Semicolon.is _ (λ next. next.0) (λ next. next.1.now) c.first_token.ensures c.is_none.ensures
+returns-in-Semicolon c = ended _ c.in-Semicolon.is c.is_blank.ensures
 
 pub returns-in_default : goal.returns-in_default
 returns-in_default c = not_ended _ _ c.in_default.not-Semicolon
