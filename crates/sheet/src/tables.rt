@@ -32,7 +32,9 @@ impl Additions {
 }
 
 // A price counts from the first taxon on that is at or below its record, so it is added at that taxon's place: one pass for all rows. What
-// never counts is added at the place of none, which has no row.
+// never counts is added at the place of none, which has no row. Neither table is inlined, so that what both are made of is off the stack when the set
+// is measured.
+#[inline(never)]
 fn quarters_of(o: &[u8], set: &[u8], firsts: &[usize; NUMBERS]) -> [u32; NUMBERS]
     requires { HasFirsts o.now set.now firsts.now }
     ensures { Adds o.now (cost o.now) set.now result }
@@ -47,6 +49,7 @@ fn quarters_of(o: &[u8], set: &[u8], firsts: &[usize; NUMBERS]) -> [u32; NUMBERS
 }
 
 // A branch counts once a taxon is at or below its record and another is not, so it is added at the higher of the two places.
+#[inline(never)]
 fn diversity_of(o: &[u8], way: u32, set: &[u8], firsts: &[usize; NUMBERS]) -> [u32; NUMBERS]
     requires { HasFirsts o.now set.now firsts.now }
     ensures { Adds o.now (diversity o.now way) set.now result }

@@ -7,7 +7,9 @@ ghost use Rattle.outline.specs.Outline.{IsRecord};
 use outline::fields::{first_of, is_taxon, next_of, plate_of, price_of};
 use text::Pen;
 
-// The pair of a taxon; a group has none.
+// The pair of a taxon; a group has none. Not inlined: the pair is lent from the stack, and with that in its own frame `put_pairs` would keep a frame
+// for every record of a chain, where it now goes from member to member in one.
+#[inline(never)]
 fn put_pair(o: &[u8], r: usize, pen: &mut Pen<u32>)
     requires fact { IsRecord o.now r }
     requires long_enough { LongEnough (own_pair o.now r) pen.old }
